@@ -1,0 +1,71 @@
+-- What the calls on labels alone answer.
+use Prim.Native.Nat.{ℕ, _≤_}
+use mathlib.Core.Path.{_≡_, refl}
+use mathlib.Core.Bool.{Bool, true, false}
+use mathlib.Core.List.{List, [], _∷_}
+use lib.Dec.{T, le→leb}
+use mathlib.Core.Option.{none}
+use Rattle.model.specs.Refusals.{check, first, notLabel, value, refused, reply, badRoot}
+use Rattle.model.specs.Labels.{kinship, follows, labelOf, isLabel, labelCheck, kinshipCall, followsCall, decodeCall, decodeRefusal, pathCheck, Label, decode, path, labelWords, namesIn}
+use Rattle.model.specs.Names.{rootCheck, isName, tableCheck, cluesOf}
+use Rattle.model.specs.Basics.{elim?}
+use Rattle.model.specs.Limits.{maxName}
+use Rattle.model.proofs.LabelWords.{GoodLabel, labelOf-labelWords, labelWords-good}
+use Rattle.model.proofs.Refusals.{check-passed}
+
+module _ {A : Type 0} (a b : List ℕ) (x : A) where
+  -- a call on two labels answers its value
+  labels-call : T (isLabel a) → T (isLabel b) → reply (first (labelCheck a ∷ labelCheck b ∷ [])) x ≡ value x
+  unfolding labelCheck check first reply
+  labels-call = go (isLabel a) (isLabel b)
+    where
+      go : (p q : Bool) → T p → T q → reply (first (check p notLabel 0 ∷ check q notLabel 0 ∷ [])) x ≡ value x
+      go true true h k = refl
+      go true false h k = absurd k
+      go false q h k = absurd h
+
+  -- a call on words of which one or both are no label is refused by 15
+  labels-refused : ((T (isLabel a) × T (isLabel b)) → ⊥) →
+      reply (first (labelCheck a ∷ labelCheck b ∷ [])) x ≡ refused (record { number = notLabel; place = 0 })
+  unfolding labelCheck check first reply
+  labels-refused = go (isLabel a) (isLabel b)
+    where
+      go : (p q : Bool) → ((T p × T q) → ⊥) →
+          reply (first (check p notLabel 0 ∷ check q notLabel 0 ∷ [])) x ≡ refused (record { number = notLabel; place = 0 })
+      go true true n = absurd (n (tt, tt))
+      go true false n = refl
+      go false q n = refl
+
+module _ (a b : List ℕ) where
+  -- kinship of two labels is answered
+  pub kinship-call : T (isLabel a) → T (isLabel b) → kinshipCall a b ≡ value (kinship (labelOf a) (labelOf b))
+  unfolding kinshipCall
+  kinship-call = labels-call a b (kinship (labelOf a) (labelOf b))
+
+  -- kinship of anything else is refused
+  pub kinship-refused : ((T (isLabel a) × T (isLabel b)) → ⊥) → kinshipCall a b ≡ refused (record { number = notLabel; place = 0 })
+  unfolding kinshipCall
+  kinship-refused = labels-refused a b (kinship (labelOf a) (labelOf b))
+
+  -- whether a label follows another is answered
+  pub follows-call : T (isLabel a) → T (isLabel b) → followsCall a b ≡ value (follows (labelOf a) (labelOf b))
+  unfolding followsCall
+  follows-call = labels-call a b (follows (labelOf a) (labelOf b))
+
+  -- whether anything else does is refused
+  pub follows-refused : ((T (isLabel a) × T (isLabel b)) → ⊥) → followsCall a b ≡ refused (record { number = notLabel; place = 0 })
+  unfolding followsCall
+  follows-refused = labels-refused a b (follows (labelOf a) (labelOf b))
+
+-- a label that decodes to a path is answered with it
+pub decode-call : (rows : List (List ℕ)) (root : ℕ) (l : Label) (ns : List ℕ) → tableCheck rows ≡ none → root ≤ maxName → GoodLabel l →
+    decode (cluesOf rows) root l ≡ path ns → decodeCall rows root (labelWords l) ≡ record { refusal = none; names = namesIn (path ns) }
+unfolding decodeCall decodeRefusal rootCheck isName labelCheck pathCheck first elim?
+decode-call rows root l ns table small good e =
+    rw (
+      labelOf-labelWords l,
+      e,
+      table,
+      check-passed (isName root) badRoot 0 (le→leb root maxName small),
+      check-passed (isLabel (labelWords l)) notLabel 0 (labelWords-good l good),
+    )

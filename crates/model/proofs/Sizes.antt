@@ -1,0 +1,118 @@
+-- Sizes of slices and counts, and what a call writes over a slice.
+use mathlib.Core.Path.{_≡_, refl, ap}
+use mathlib.Core.Bool.{Bool, true, false, cond, _&&_, _||_}
+use Prim.Native.Nat.{zero, suc, ℕ, _%_, _*_, _<_, _≤_, _+_}
+use mathlib.Core.List.{[], _∷_, List}
+use lib.Dec.{T, ltb, leb, eqb, leb→le, ltb→lt, lt→ltb, le→leb}
+use mathlib.Core.Option.{none}
+use lib.ListN.{drop, length, take, length-append, length-drop}
+use mathlib.Core.Logic.{_↔_}
+use lib.Seq.{drop-at, take-at}
+use native.Mathlib.Omega.{arith}
+use Rattle.model.specs.Store.{elements, isSlice, sizeCheck, records, Element}
+use Rattle.model.specs.Basics.{over, _∈_}
+use Rattle.model.specs.Updates.{placed, spaceCheck}
+use Rattle.model.specs.Labels.{Label, within, before}
+use Rattle.model.specs.Limits.{recordSize, maxElements}
+use Rattle.model.specs.Refusals.{noSpace, storeSize}
+use Rattle.model.proofs.Tests.{and-iff, eqb-alike}
+use Rattle.model.proofs.Lists.{for-cons, here, there}
+use Rattle.model.proofs.Refusals.{check-none, check-passed}
+
+-- what is written is written from the start
+pub take-over : (ws out : List ℕ) → take (length ws) (over ws out) ≡ ws
+unfolding over
+take-over ws out = take-at ws (drop (length ws) out) (length ws) refl
+
+-- past it nothing is touched
+pub drop-over : (ws out : List ℕ) → drop (length ws) (over ws out) ≡ drop (length ws) out
+unfolding over
+drop-over ws out = drop-at ws (drop (length ws) out) (length ws) refl
+
+-- an output that holds what is written keeps its length
+pub length-over : (ws out : List ℕ) → length ws ≤ length out → length (over ws out) ≡ length out
+unfolding over
+length-over ws out h = simp (length-append, length-drop) (omega arith)
+
+-- the facts of refusal 18 for a new store: the length is a multiple of 20, not 0
+pub slice-iff : (len : ℕ) → T (isSlice len) ↔ ((len % recordSize ≡ 0) × (0 < len))
+unfolding isSlice
+slice-iff len = (
+  λ h. let (a, b) = and-iff (eqb (len % recordSize) 0) (ltb 0 len) .0 h in (eqb-alike (len % recordSize) 0 .0 a, ltb→lt 0 len b),
+  λ p. and-iff (eqb (len % recordSize) 0) (ltb 0 len) .1 (eqb-alike (len % recordSize) 0 .1 (p .0), lt→ltb 0 len (p .1)),
+)
+
+-- the facts of refusal 18
+pub record Sized (len count : ℕ) : Type 0 where
+  pub whole : len % recordSize ≡ 0
+  pub positive : 0 < len
+  pub used : 0 < count
+  pub held : recordSize * count ≤ len
+  pub few : count ≤ maxElements
+
+-- sizes are accepted exactly if the facts hold
+pub size-iff : (len count : ℕ) → sizeCheck len count ≡ none ↔ Sized len count
+unfolding sizeCheck
+size-iff len count =
+    let a : Bool = isSlice len in
+    let b : Bool = ltb 0 count in
+    let c : Bool = leb (recordSize * count) len in
+    let d : Bool = leb count maxElements in (
+      λ h.
+          let (abc, few) = and-iff (a && b && c) d .0 (check-none (a && b && c && d) storeSize 0 h) in
+          let (ab, held) = and-iff (a && b) c .0 abc in
+          let (slice, used) = and-iff a b .0 ab in
+          let (whole, positive) = slice-iff len .0 slice in
+          record {
+            whole = whole;
+            positive = positive;
+            used = ltb→lt 0 count used;
+            held = leb→le (recordSize * count) len held;
+            few = leb→le count maxElements few;
+          },
+      λ s.
+          check-passed (a && b && c && d) storeSize 0
+          (and-iff (a && b && c) d .1 (
+            and-iff (a && b) c .1 (and-iff a b .1 (slice-iff len .1 (s .whole, s .positive), lt→ltb 0 count (s .used)), le→leb (recordSize * count) len (s .held)),
+            le→leb count maxElements (s .few),
+          )),
+    )
+
+-- there is a free record exactly if one more fits the slice and fewer than 4,096 are in use
+pub space-iff : (len count : ℕ) → spaceCheck len count ≡ none ↔ ((recordSize * (count + 1) ≤ len) × (count < maxElements))
+unfolding spaceCheck
+space-iff len count =
+    let a : Bool = leb (recordSize * (count + 1)) len in
+    let b : Bool = ltb count maxElements in (
+      λ h.
+          let (held, few) = and-iff a b .0 (check-none (a && b) noSpace 0 h) in
+          (leb→le (recordSize * (count + 1)) len held, ltb→lt count maxElements few),
+      λ p. check-passed (a && b) noSpace 0 (and-iff a b .1 (le→leb (recordSize * (count + 1)) len (p .0), lt→ltb count maxElements (p .1))),
+    )
+
+-- as many records are read as there are
+pub length-elements-read : (count : ℕ) (ws : List ℕ) → length (elements count ws) ≡ count
+unfolding elements records
+length-elements-read zero ws = refl
+length-elements-read (suc n) ws = ap suc (length-elements-read n (drop recordSize ws))
+
+-- placing adds one element
+pub length-placed : (l : Label) (new : Element) (es : List Element) → length (placed l new es) ≡ suc (length es)
+unfolding placed
+length-placed l new [] = refl
+length-placed l new (e ∷ es) = go (within l (e .label) || before (e .label) l) (length-placed l new es)
+  where
+    go : (c : Bool) → length (placed l new es) ≡ suc (length es) → length (cond c (e ∷ placed l new es) (new ∷ e ∷ es)) ≡ suc (suc (length es))
+    go true below = ap suc below
+    go false below = refl
+
+-- and no other
+pub placed-only : (l : Label) (new : Element) (es : List Element) (P : Element → Type 0) → P new → ((e : Element) → e ∈ es → P e) →
+    (e : Element) → e ∈ placed l new es → P e
+unfolding placed
+placed-only l new [] P p q = for-cons P p q
+placed-only l new (x ∷ es) P p q = go (within l (x .label) || before (x .label) l) (placed-only l new es P p (λ e m. q e (there m)))
+  where
+    go : (c : Bool) → ((e : Element) → e ∈ placed l new es → P e) → (e : Element) → e ∈ cond c (x ∷ placed l new es) (new ∷ x ∷ es) → P e
+    go true below = for-cons P (q x (here refl)) below
+    go false below = for-cons P p q

@@ -1,0 +1,71 @@
+-- Cutting: the stream of one name, or of all, written from a store.
+use Prim.Native.Nat.{ℕ, _*_}
+use mathlib.Core.List.{List, [], _∷_, map}
+use mathlib.Core.Option.{Option, none, some}
+use lib.ListN.{length, take}
+use lib.Dec.{leb}
+use mathlib.Core.Path.{_≡_}
+use Rattle.model.specs.Basics.{elim?, keep, over}
+use Rattle.model.specs.Refusals.{Refusal, check, first, shortOutput}
+use Rattle.model.specs.Names.{cluesOf, tableCheck, Clues}
+use Rattle.model.specs.Labels.{Label}
+use Rattle.model.specs.Twigs.{Twig, nameCheck, wanted}
+use Rattle.model.specs.Matches.{asks, labelsWords, Match, matches}
+use Rattle.model.specs.Store.{Element, elements, sizeCheck, soundCheck}
+use Rattle.model.specs.Limits.{labelSize}
+
+-- the labels of the elements that a name asks for
+unfoldable pub stream : ℕ → List Element → List Label
+stream want es = map (λ e. e .label) (keep (λ e. asks want (e .name)) es)
+
+-- the streams of a twig, one for each record: a leaf's is cut by its name, an inner record has none
+unfoldable pub streams : Twig → List Element → List (List Label)
+streams t es = map (λ r. elim? r [] (λ want. stream want es)) (wanted t)
+
+-- the full list of matches of a twig over elements: each leaf's stream has the labels its name asks for, whatever the room
+unfoldable pub fullList : Clues → ℕ → Twig → List Element → List Match
+fullList cl root t es = matches cl root t (streams t es)
+
+-- what a call that fills an output answers and leaves: the refusal, a count, the output
+pub record Listing : Type 0 where
+  pub refusal : Option Refusal
+  pub count : ℕ
+  pub output : List ℕ
+
+-- a result of some words written to an output, or the refusal, with a count of 0 and the output as it was
+unfoldable pub listed : Option Refusal → ℕ → List ℕ → List ℕ → Listing
+listed none count ws out = record { refusal = none; count = count; output = over ws out }
+listed (some r) count ws out = record { refusal = some r; count = 0; output = out }
+
+-- the check of an output's length, 17
+unfoldable pub roomCheck : List ℕ → List ℕ → Option Refusal
+roomCheck ws out = check (leb (length ws) (length out)) shortOutput 0
+
+-- cutting: 22, 18, 19, 7, 17
+unfoldable pub cutRefusal : List (List ℕ) → List ℕ → ℕ → ℕ → List ℕ → Option Refusal
+cutRefusal rows ws count want out =
+    first
+    (tableCheck rows
+    ∷ sizeCheck (length ws) count
+    ∷ soundCheck (cluesOf rows) count ws
+    ∷ nameCheck want 0
+    ∷ roomCheck (labelsWords (stream want (elements count ws))) out
+    ∷ [])
+
+-- cutting answers how many labels the stream has
+unfoldable pub cut : List (List ℕ) → List ℕ → ℕ → ℕ → List ℕ → Listing
+cut rows ws count want out =
+    let ls = stream want (elements count ws) in
+    listed (cutRefusal rows ws count want out) (length ls) (labelsWords ls) out
+
+-- the words of the stream that cutting wrote
+abbrev pub cutWords : Listing → List ℕ
+cutWords a = take (labelSize * a .count) (a .output)
+
+-- accepted answers to cutting from one store, one for each name, each into an output of its own
+abbrev pub Cuts : List (List ℕ) → List ℕ → ℕ → List ℕ → List Listing → Type 0
+Cuts rows ws count [] [] = Unit {0}
+Cuts rows ws count [] (a ∷ cuts) = ⊥
+Cuts rows ws count (want ∷ wants) [] = ⊥
+Cuts rows ws count (want ∷ wants) (a ∷ cuts) =
+    ((out : List ℕ) × (a ≡ cut rows ws count want out) × (a .refusal ≡ none)) × Cuts rows ws count wants cuts

@@ -1,0 +1,51 @@
+-- Demand 1 over the definitions: a refused call alters no lent buffer, and a call that is taken leaves every buffer as long as it was.
+use mathlib.Core.List.{List, []}
+use Prim.Native.Nat.{ℕ, _<_}
+use mathlib.Core.Path.{_≡_}
+use mathlib.Core.Option.{some, none}
+use lib.ListN.{length, getD, replicate, take, drop}
+use Rattle.model.specs.Refusals.{Refusal}
+use Rattle.model.specs.Names.{readNames, emptyTable, tableCheck}
+use Rattle.model.specs.Limits.{tableSize, labelSize}
+use Rattle.model.specs.Labels.{decodeCall}
+use Rattle.model.specs.Updates.{newStore, enter, delete}
+use Rattle.model.specs.Cutting.{cut}
+use Rattle.model.specs.Matching.{matchCall}
+use Rattle.model.specs.Basics.{over}
+
+pub record Demand1 : Type 0 where
+  -- the reader of a refused child-name file returns a table of empty clues; whatever it returns is an accepted table of 64 rows of 64
+  pub names : (bytes : List ℕ) (r : Refusal) → readNames bytes .refusal ≡ some r → readNames bytes .table ≡ emptyTable
+  pub tables : (bytes : List ℕ) → tableCheck (readNames bytes .table) ≡ none
+  pub rows : (bytes : List ℕ) → length (readNames bytes .table) ≡ tableSize
+  pub places : (bytes : List ℕ) (p : ℕ) → p < tableSize → length (getD (readNames bytes .table) p []) ≡ tableSize
+  -- a refusal of decoding gives no names, all zeros
+  pub decodings : (rows : List (List ℕ)) (root : ℕ) (lw : List ℕ) (r : Refusal) →
+      decodeCall rows root lw .refusal ≡ some r → decodeCall rows root lw .names ≡ replicate labelSize 0
+  pub sixteen : (rows : List (List ℕ)) (root : ℕ) (lw : List ℕ) → length (decodeCall rows root lw .names) ≡ labelSize
+  -- a refused new store answers the count 0
+  pub newStores : (ws : List ℕ) (root p0 p1 : ℕ) (r : Refusal) →
+      newStore ws root p0 p1 .refusal ≡ some r → newStore ws root p0 p1 ≡ record { refusal = some r; count = 0; label = []; slice = ws }
+  -- a refused entry answers the count it was given and sixteen zeros, a refused deletion the count it was given
+  pub entries : (rows : List (List ℕ)) (ws : List ℕ) (count : ℕ) (lw : List ℕ) (name p0 p1 : ℕ) (r : Refusal) →
+      enter rows ws count lw name p0 p1 .refusal ≡ some r →
+      enter rows ws count lw name p0 p1 ≡ record { refusal = some r; count = count; label = replicate labelSize 0; slice = ws }
+  pub deletions : (rows : List (List ℕ)) (ws : List ℕ) (count : ℕ) (lw : List ℕ) (r : Refusal) →
+      delete rows ws count lw .refusal ≡ some r → delete rows ws count lw ≡ record { refusal = some r; count = count; label = []; slice = ws }
+  -- a refusal of cutting or matching answers the count 0
+  pub cuts : (rows : List (List ℕ)) (ws : List ℕ) (count want : ℕ) (out : List ℕ) (r : Refusal) →
+      cut rows ws count want out .refusal ≡ some r → cut rows ws count want out ≡ record { refusal = some r; count = 0; output = out }
+  pub matchings : (rows : List (List ℕ)) (root : ℕ) (bytes counts buffer out : List ℕ) (r : Refusal) →
+      matchCall rows root bytes counts buffer out .refusal ≡ some r →
+      matchCall rows root bytes counts buffer out ≡ record { refusal = some r; count = 0; output = out }
+  -- every slice and every output keeps its length
+  pub newStoreSlice : (ws : List ℕ) (root p0 p1 : ℕ) → length (newStore ws root p0 p1 .slice) ≡ length ws
+  pub entrySlice : (rows : List (List ℕ)) (ws : List ℕ) (count : ℕ) (lw : List ℕ) (name p0 p1 : ℕ) →
+      length (enter rows ws count lw name p0 p1 .slice) ≡ length ws
+  pub deletionSlice : (rows : List (List ℕ)) (ws : List ℕ) (count : ℕ) (lw : List ℕ) → length (delete rows ws count lw .slice) ≡ length ws
+  pub cutOutput : (rows : List (List ℕ)) (ws : List ℕ) (count want : ℕ) (out : List ℕ) → length (cut rows ws count want out .output) ≡ length out
+  pub matchOutput : (rows : List (List ℕ)) (root : ℕ) (bytes counts buffer out : List ℕ) →
+      length (matchCall rows root bytes counts buffer out .output) ≡ length out
+  -- what is written is written from the start, and past it nothing is touched
+  pub start : (ws out : List ℕ) → take (length ws) (over ws out) ≡ ws
+  pub rest : (ws out : List ℕ) → drop (length ws) (over ws out) ≡ drop (length ws) out

@@ -1,0 +1,58 @@
+-- Demand 2 over the definitions: the list of matches, and what streams cut from a sound store give.
+use Prim.Native.Nat.{ℕ, _≤_, _-_, _*_}
+use mathlib.Core.List.{List, [], map}
+use mathlib.Core.Path.{_≡_}
+use mathlib.Core.Option.{none, some}
+use mathlib.Core.Logic.{_↔_}
+use lib.ListN.{length, getD}
+use Rattle.model.specs.Names.{Clues, cluesOf, tableCheck}
+use Rattle.model.specs.Store.{Element, elements, rootOf, sizeCheck, soundCheck}
+use Rattle.model.specs.Twigs.{Twig, twigCheck, readTwig, wanted, OneLeaf, nameCheck, leafNames}
+use Rattle.model.specs.Labels.{Label, nameAt}
+use Rattle.model.specs.Basics.{_∈_, Ascending, over, joined}
+use Rattle.model.specs.Matches.{earlier, matches, Match, GoodStreams, IsMatch, PathSolution, labelsWords, matchWords}
+use Rattle.model.specs.Matching.{streamsCheck, dealt, matchCall}
+use Rattle.model.specs.Cutting.{streams, stream, cut, Listing, Cuts, fullList, cutWords}
+use Rattle.model.specs.Limits.{labelSize}
+
+-- The list of matches over streams that matching takes.
+pub record ListHolds (cl : Clues) (root : ℕ) (t : Twig) (streams : List (List Label)) : Type 0 where
+  -- strictly ascending: each match once, in label order
+  pub ascending : Ascending earlier (matches cl root t streams)
+  -- all matches, and nothing else
+  pub exact : (m : Match) → m ∈ matches cl root t streams ↔ IsMatch cl root t streams m
+  -- a twig with one leaf gives path solutions
+  pub paths : OneLeaf t → (m : Match) → m ∈ matches cl root t streams ↔ PathSolution cl root t (getD streams (length t - 1) []) m
+  -- 16 words for each label
+  pub words : length (matchWords (matches cl root t streams)) ≡ labelSize * length t * length (matches cl root t streams)
+
+-- What holds of a sound store and an accepted twig.
+pub record StoreHolds (rows : List (List ℕ)) (ws : List ℕ) (count : ℕ) : Type 0 where
+  -- each label decodes to its record's name, under record 0's as the root's
+  pub decodes : (e : Element) → e ∈ elements count ws → nameAt (cluesOf rows) (rootOf ws) (e .label) ≡ some (e .name)
+  -- the streams cut from it ascend, and each label decodes to the name asked for
+  pub streamed : (t : Twig) → GoodStreams (cluesOf rows) (rootOf ws) t (streams t (elements count ws))
+  -- cutting with room enough gives the labels that a name asks for
+  pub cutting :
+      (want : ℕ) → nameCheck want 0 ≡ none → (out : List ℕ) → length (labelsWords (stream want (elements count ws))) ≤ length out →
+      cut rows ws count want out ≡
+      record { refusal = none; count = length (stream want (elements count ws)); output = over (labelsWords (stream want (elements count ws))) out }
+  -- the streams cut from it are accepted, and matching them with room enough lists the full list
+  pub matching :
+      (bytes : List ℕ) → twigCheck bytes ≡ none → (cuts : List Listing) → Cuts rows ws count (leafNames (wanted (readTwig bytes))) cuts →
+      (out : List ℕ) → length (matchWords (fullList (cluesOf rows) (rootOf ws) (readTwig bytes) (elements count ws))) ≤ length out →
+      matchCall rows (rootOf ws) bytes (map (λ a. a .count) cuts) (joined (map cutWords cuts)) out ≡
+      record {
+        refusal = none;
+        count = length (fullList (cluesOf rows) (rootOf ws) (readTwig bytes) (elements count ws));
+        output = over (matchWords (fullList (cluesOf rows) (rootOf ws) (readTwig bytes) (elements count ws))) out;
+      }
+
+-- Demand 2: of every twig and every streams that matching takes, and of every sound store.
+pub record Demand2 : Type 0 where
+  pub lists :
+      (cl : Clues) (root : ℕ) (bytes counts buffer : List ℕ) → twigCheck bytes ≡ none → streamsCheck cl root (readTwig bytes) counts buffer ≡ none →
+      ListHolds cl root (readTwig bytes) (dealt (wanted (readTwig bytes)) counts buffer)
+  pub stores :
+      (rows : List (List ℕ)) (ws : List ℕ) (count : ℕ) → tableCheck rows ≡ none → sizeCheck (length ws) count ≡ none →
+      soundCheck (cluesOf rows) count ws ≡ none → StoreHolds rows ws count

@@ -1,0 +1,115 @@
+-- Demand 3, sentence by sentence beside the paper's section "The book beside the store".
+use Prim.Native.Nat.{ℕ, _+_, _-_, _*_, _≤_, _<_}
+use mathlib.Core.List.{List, [], _∷_, _++_, map}
+use mathlib.Core.Logic.{_↔_}
+use mathlib.Core.Option.{none, some}
+use mathlib.Core.Path.{_≡_}
+use lib.ListN.{length, getD, take, replicate}
+use lib.Dec.{T}
+use Rattle.model.specs.Basics.{_∈_, joined, over, Ascending}
+use Rattle.model.specs.Limits.{labelSize, recordSize}
+use Rattle.model.specs.Refusals.{Refusal}
+use Rattle.model.specs.Names.{cluesOf, tableCheck}
+use Rattle.model.specs.Labels.{Label, within, same, labelOf, labelWords, namesIn, path, decodeCall}
+use Rattle.model.specs.Twigs.{readTwig, twigCheck, nameCheck, wanted, leafNames}
+use Rattle.model.specs.Matches.{labelsWords, matchWords, less}
+use Rattle.model.specs.Store.{sizeCheck}
+use Rattle.model.specs.Updates.{given}
+use Rattle.model.specs.Cutting.{Listing, stream, cut, Cuts, fullList, cutWords}
+use Rattle.model.specs.Matching.{matchCall}
+use Rattle.model.specs.Book.{Line, Book, Call, entry, deletion, lineElement, lineAt, sooner, inOrder, bookElements, bookWords, bookRefusal, bookAfter, childLine, answer, Run}
+
+-- What holds after the list of calls.
+pub record Held (rows : List (List ℕ)) (root : ℕ) (w : List ℕ) (n : ℕ) (b : Book) (g : List Label) : Type 0 where
+  -- the count is the number of lines
+  pub counted : n ≡ length b
+  -- the records in use are the lines in label order
+  pub laid : w ≡ bookWords b
+  pub ordered : Ascending sooner (inOrder b)
+  pub sameLines : (x : Line) → x ∈ inOrder b ↔ x ∈ b
+  -- no label was given out twice
+  pub once : (i j : ℕ) → i < j → j < length g → getD g i [] ≡ getD g j [] → ⊥
+  -- the labels of the lines were given out
+  pub givenLines : (x : Line) → x ∈ b → x .label ∈ g
+  -- decoding a line's label gives its path
+  pub decodes : (x : Line) → x ∈ b → decodeCall rows root (labelWords (x .label)) ≡ record { refusal = none; names = namesIn (path (x .names)) }
+  -- cutting from the slice, with room enough, gives the line labels that a name asks for
+  pub cutting :
+      (slice : List ℕ) → take (recordSize * n) slice ≡ w → sizeCheck (length slice) n ≡ none → (want : ℕ) → nameCheck want 0 ≡ none →
+      (out : List ℕ) → length (labelsWords (stream want (bookElements b))) ≤ length out →
+      cut rows slice n want out ≡
+      record { refusal = none; count = length (stream want (bookElements b)); output = over (labelsWords (stream want (bookElements b))) out }
+  -- streams cut from the slice and matched with room enough give the full list
+  pub matching :
+      (slice : List ℕ) → take (recordSize * n) slice ≡ w → (bytes : List ℕ) → twigCheck bytes ≡ none →
+      (cuts : List Listing) → Cuts rows slice n (leafNames (wanted (readTwig bytes))) cuts →
+      (out : List ℕ) → length (matchWords (fullList (cluesOf rows) root (readTwig bytes) (bookElements b))) ≤ length out →
+      matchCall rows root bytes (map (λ a. a .count) cuts) (joined (map cutWords cuts)) out ≡
+      record {
+        refusal = none;
+        count = length (fullList (cluesOf rows) root (readTwig bytes) (bookElements b));
+        output = over (matchWords (fullList (cluesOf rows) root (readTwig bytes) (bookElements b))) out;
+      }
+
+-- What holds of an accepted entry: b is the book before it, after the book after it.
+pub record EntryHolds (rows : List (List ℕ)) (root n : ℕ) (b after : Book) (slice lw : List ℕ) (name p0 p1 : ℕ) : Type 0 where
+  -- the parent's line stands
+  pub parent : Line
+  pub found : lineAt (labelOf lw) b ≡ some parent
+  pub parentLabel : parent .label ≡ labelOf lw
+  -- the line added is new, and the entry answered its label
+  pub num : ℕ
+  pub numbered : num ≡ given (cluesOf rows) (lineElement parent) name
+  pub added : childLine parent num name p0 p1 ∈ after
+  pub answered : answer rows slice n (entry lw name p0 p1) .label ≡ labelWords (parent .label ++ (num ∷ []))
+  -- of the parent's line only the next number changes
+  pub parentMoved :
+      record { label = parent .label; names = parent .names; next = num + 1; payload0 = parent .payload0; payload1 = parent .payload1 } ∈ after
+  -- every other line stays as it was, and there is none besides
+  pub othersStay : (x : Line) → x ∈ b → (x .label ≡ labelOf lw → ⊥) → x ∈ after
+  pub oneMore : length after ≡ length b + 1
+  -- every word of the slice
+  pub words : answer rows slice n (entry lw name p0 p1) .slice ≡ over (bookWords after) slice
+  -- the list after the entry, less the matches that give a twig record the new label, is the list before it
+  pub matched :
+      (bytes : List ℕ) → twigCheck bytes ≡ none →
+      less (same (parent .label ++ (num ∷ []))) (fullList (cluesOf rows) root (readTwig bytes) (bookElements after)) ≡ fullList (cluesOf rows) root (readTwig bytes) (bookElements b)
+
+-- What holds of an accepted deletion.
+pub record DeletionHolds (rows : List (List ℕ)) (root n : ℕ) (b after : Book) (slice lw : List ℕ) : Type 0 where
+  -- a line with the label stood
+  pub struckLine : Line
+  pub found : lineAt (labelOf lw) b ≡ some struckLine
+  -- the lines whose label is the one handed in or begins with it are struck, every other line stays as it was
+  pub stays : (x : Line) → x ∈ after ↔ (x ∈ b × (T (within (labelOf lw) (x .label)) → ⊥))
+  -- every word of the slice: the freed records are zeros
+  pub words : answer rows slice n (deletion lw) .slice ≡ over (bookWords after ++ replicate (recordSize * (n - length after)) 0) slice
+  -- the list before the deletion, less the matches that give a twig record a struck label, is the list after it
+  pub matched :
+      (bytes : List ℕ) → twigCheck bytes ≡ none →
+      less (within (labelOf lw)) (fullList (cluesOf rows) root (readTwig bytes) (bookElements b)) ≡ fullList (cluesOf rows) root (readTwig bytes) (bookElements after)
+
+-- What holds of a refused call: it writes nothing, and answers the count it was given and, for an entry, sixteen zeros.
+pub record RefusalHolds (rows : List (List ℕ)) (n : ℕ) (b after : Book) (slice : List ℕ) (c : Call) : Type 0 where
+  pub bookStays : after ≡ b
+  pub sliceStays : answer rows slice n c .slice ≡ slice
+  pub countStays : answer rows slice n c .count ≡ n
+  pub zeros : (lw : List ℕ) (name p0 p1 : ℕ) → c ≡ entry lw name p0 p1 → answer rows slice n c .label ≡ replicate labelSize 0
+
+-- what holds of an accepted call
+abbrev pub Accepted : List (List ℕ) → ℕ → ℕ → Book → Book → List ℕ → Call → Type 0
+Accepted rows root n b after slice (entry lw name p0 p1) = EntryHolds rows root n b after slice lw name p0 p1
+Accepted rows root n b after slice (deletion lw) = DeletionHolds rows root n b after slice lw
+
+-- What holds of the call that comes next.
+pub record Next (rows : List (List ℕ)) (root n : ℕ) (b : Book) (slice : List ℕ) (c : Call) : Type 0 where
+  -- it is refused exactly where the book refuses it, by the same number and place
+  pub refusedAlike : answer rows slice n c .refusal ≡ bookRefusal (cluesOf rows) b (length slice) c
+  pub refused : (r : Refusal) → answer rows slice n c .refusal ≡ some r → RefusalHolds rows n b (bookAfter (cluesOf rows) b (length slice) c) slice c
+  pub accepted : answer rows slice n c .refusal ≡ none → Accepted rows root n b (bookAfter (cluesOf rows) b (length slice) c) slice c
+
+-- Demand 3: one claim about the whole list of entries and deletions from an accepted new store, under an accepted table.
+abbrev pub Demand3 : Type 0
+Demand3 =
+    (rows : List (List ℕ)) → tableCheck rows ≡ none → (root : ℕ) (w : List ℕ) (n : ℕ) (b : Book) (g : List Label) → Run rows root w n b g →
+    Held rows root w n b g × ((slice : List ℕ) (c : Call) → take (recordSize * n) slice ≡ w → Next rows root n b slice c)

@@ -1,0 +1,58 @@
+-- The numbers that document 01 fixes, by name.
+use Prim.Native.Nat.{ℕ}
+
+-- names are 0 to 63
+abbrev pub maxName : ℕ
+maxName = 63
+
+-- a table has sixty-four rows, and a row sixty-four places
+abbrev pub tableSize : ℕ
+tableSize = 64
+
+-- a row is filled up with 255
+abbrev pub filler : ℕ
+filler = 255
+
+-- a child-name file has at most 8,192 bytes
+abbrev pub maxFile : ℕ
+maxFile = 8192
+
+-- largest component
+abbrev pub maxComponent : ℕ
+maxComponent = 65534
+
+-- deepest level
+abbrev pub maxDepth : ℕ
+maxDepth = 15
+
+-- most elements of a store, and most labels of a stream
+abbrev pub maxElements : ℕ
+maxElements = 4096
+
+-- the words of a label outside the store
+abbrev pub labelSize : ℕ
+labelSize = 16
+
+-- the words of a record
+abbrev pub recordSize : ℕ
+recordSize = 20
+
+-- the bytes of a twig record
+abbrev pub nodeSize : ℕ
+nodeSize = 4
+
+-- a twig has at most eight records
+abbrev pub maxTwig : ℕ
+maxTwig = 32
+
+-- in a twig or in cutting, 255 asks for any name
+abbrev pub anyName : ℕ
+anyName = 255
+
+-- record 0 of a twig has 255 for its parent's number
+abbrev pub noParent : ℕ
+noParent = 255
+
+-- the bytes of the store's file, of the program's stream buffer and of its match buffer, each at most
+abbrev pub maxBytes : ℕ
+maxBytes = 64000
