@@ -1,0 +1,93 @@
+-- Demand 2: the list of matches, and what streams cut from a sound store give.
+use mathlib.Core.Path.{_≡_, refl, ap}
+use Prim.Native.Nat.{ℕ, zero, suc, _≤_, _*_}
+use mathlib.Core.List.{List, []}
+use lib.Dec.{T}
+use lib.ListN.{length, getD, length-append}
+use mathlib.Core.Option.{none}
+use native.Mathlib.Omega.{arith}
+use Rattle.model.specs.Names.{Clues, tableCheck, cluesOf}
+use Rattle.model.specs.Demand2.{Demand2, ListHolds, StoreHolds}
+use Rattle.model.specs.Labels.{Label, within}
+use Rattle.model.specs.Store.{rootOf, sizeCheck, soundCheck, elements}
+use Rattle.model.specs.Twigs.{Twig, twigCheck, GoodTwig, readTwig, wanted}
+use Rattle.model.specs.Matching.{streamsCheck, dealt}
+use Rattle.model.specs.Basics.{_∈_}
+use Rattle.model.specs.Matches.{Match, matchWords, IsMatch, matches}
+use Rattle.model.specs.Limits.{labelSize, maxDepth}
+use Rattle.model.proofs.LabelOrder.{within-iff}
+use Rattle.model.proofs.SoundStore.{SoundElements, sound-elements}
+use Rattle.model.proofs.LabelWords.{GoodLabel}
+use Rattle.model.proofs.Listings.{Stored, cut-listed, match-listed}
+use Rattle.model.proofs.Sizes.{size-iff, length-elements-read}
+use Rattle.model.proofs.TwigBytes.{accepted-twig}
+use Rattle.model.proofs.Faults.{sound-check}
+use Rattle.model.proofs.StreamWords.{streams-sound}
+use Rattle.model.proofs.Matches.{matches-ascending, leaf-below, matches-iff}
+use Rattle.model.proofs.Lists.{member-at}
+use Rattle.model.proofs.StreamChecks.{streams-accepted, streams-labels}
+use Rattle.model.proofs.MatchWords.{length-matchWords}
+use Rattle.model.proofs.Paths.{path-solutions}
+
+-- an ancestor's label is no longer than a descendant's
+within-length : (up low : Label) → T (within up low) → length up ≤ length low
+within-length up low h = let (rest, e) = within-iff up low .0 h in omega (arith, length-append up rest, ap length e)
+
+module _ (cl : Clues) (root : ℕ) (t : Twig) (good : GoodTwig t) (streams : List (List Label))
+    (labelled : (i : ℕ) (l : Label) → l ∈ getD streams i [] → GoodLabel l) where
+  -- every label of a match has at most 15 components, since a leaf's label below it has
+  match-short : (m : Match) → IsMatch cl root t streams m → (l : Label) → l ∈ m → length l ≤ maxDepth
+  match-short m h l k =
+      let (i, p, e) = member-at [] m l .0 k in
+      let (j, q, leaf, w) = leaf-below t good m (h .hung) i (omega (arith, h .whole)) in
+      let short = labelled j (getD m j []) (h .leaf j q leaf) .shallow in
+      omega (arith, ap length e, within-length (getD m i []) (getD m j []) w)
+
+  -- 16 words for each label
+  match-words : length (matchWords (matches cl root t streams)) ≡ labelSize * length t * length (matches cl root t streams)
+  match-words = length-matchWords (length t) (matches cl root t streams) (λ m k.
+      let h = matches-iff cl root t streams good m .0 k in (h .whole, match-short m h))
+
+-- what holds of the list of matches over accepted streams
+list-holds : (cl : Clues) (root : ℕ) (bytes counts buffer : List ℕ) → twigCheck bytes ≡ none → streamsCheck cl root (readTwig bytes) counts buffer ≡ none →
+    ListHolds cl root (readTwig bytes) (dealt (wanted (readTwig bytes)) counts buffer)
+list-holds cl root bytes counts buffer twig taken =
+    let t = readTwig bytes in
+    let good = accepted-twig bytes twig in
+    let streams = dealt (wanted t) counts buffer in
+    record {
+      ascending = matches-ascending cl root t streams (streams-accepted cl root t counts buffer taken .eachLeaf);
+      exact = matches-iff cl root t streams good;
+      paths = path-solutions cl root t streams good;
+      words = match-words cl root t good streams (streams-labels cl root t counts buffer taken);
+    }
+
+-- an accepted store has sound elements
+pub store-elements : (cl : Clues) (ws : List ℕ) (count : ℕ) → sizeCheck (length ws) count ≡ none → soundCheck cl count ws ≡ none →
+    SoundElements cl (rootOf ws) (elements count ws)
+unfolding rootOf
+store-elements cl ws zero size sound = absurd (omega (arith, size-iff (length ws) 0 .0 size .used))
+store-elements cl ws (suc n) size sound = sound-elements cl n ws (sound-check cl (suc n) ws .0 sound)
+
+-- what holds of a sound store
+store-holds : (rows : List (List ℕ)) (ws : List ℕ) (count : ℕ) → tableCheck rows ≡ none → sizeCheck (length ws) count ≡ none →
+    soundCheck (cluesOf rows) count ws ≡ none → StoreHolds rows ws count
+store-holds rows ws count table size sound =
+    let good = store-elements (cluesOf rows) ws count size sound in
+    let store : Stored rows ws count (rootOf ws) (elements count ws) = record {
+      table = table;
+      sound = sound;
+      read = refl;
+      good = good;
+      few = omega (arith, length-elements-read count ws, size-iff (length ws) count .0 size .few);
+    } in
+    record {
+      decodes = good .named;
+      streamed = λ t. streams-sound (cluesOf rows) (rootOf ws) t (elements count ws) good;
+      cutting = λ want name out room. cut-listed store want out size name room;
+      matching = match-listed store;
+    }
+
+-- the whole demand
+pub demand2 : Demand2
+demand2 = record { lists = list-holds; stores = store-holds }
