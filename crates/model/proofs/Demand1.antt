@@ -1,23 +1,22 @@
 -- Demand 1: what a refused call leaves, and that every buffer keeps its length.
 use mathlib.Core.Path.{_≡_, refl, sym, ap, _∙_}
-use mathlib.Core.Option.{Option, none, some, Option·none-ne-some, Option·some-injective, Option·some-ne-none}
+use mathlib.Core.Option.{Option, none, some, Option·none-ne-some, Option·some-injective}
 use Prim.Native.Nat.{ℕ, _≤_, suc, _<_, _+_, _*_, _-_}
 use mathlib.Core.List.{List, [], _∷_, _++_}
 use lib.ListN.{length, length-map, length-append, replicate, length-replicate}
 use mathlib.Core.Bool.{not}
 use native.Mathlib.Omega.{arith}
-use lib.Dec.{ltb, leb, ltb→lt, leb→le}
+use lib.Dec.{leb→le}
 use Rattle.model.specs.Basics.{elim?}
 use Rattle.model.specs.Cutting.{listed, Listing, cut, cutRefusal, roomCheck}
-use Rattle.model.specs.Refusals.{Refusal, refuse, notInClue, first, check, tooDeep, noNumber}
+use Rattle.model.specs.Refusals.{Refusal}
 use Rattle.model.specs.Updates.{Answer, delete, enter, entered, newStore, parentCheck, deletionRefusal, entryRefusal, newStoreRefusal, raised, given, without}
 use Rattle.model.specs.Labels.{decodeCall, decodeRefusal, Label, labelOf, within, Decoding, labelCheck, namesIn, Decoded, decode, path, stuck}
 use Rattle.model.specs.Store.{sizeCheck, elementAt, soundCheck, Element, elements, find, storeWords, elementWords}
-use Rattle.model.specs.Names.{Clues, cluesOf, placeIn}
-use Rattle.model.specs.Limits.{labelSize, maxDepth, recordSize, maxComponent}
+use Rattle.model.specs.Names.{Clues, cluesOf}
+use Rattle.model.specs.Limits.{labelSize, maxDepth, recordSize}
 use Rattle.model.specs.Matching.{matchCall, matchRefusal}
 use Rattle.model.specs.Demand1.{Demand1}
-use Rattle.model.specs.Numbers.{number}
 use Rattle.model.proofs.Sizes.{length-over, length-placed, slice-iff, placed-only, length-elements-read, space-iff, take-over, drop-over, size-iff}
 use Rattle.model.proofs.Refusals.{first-none, check-none}
 use Rattle.model.proofs.Words.{Fit, length-elementWords, length-storeWords}
@@ -26,6 +25,7 @@ use Rattle.model.proofs.NameFiles.{refused-table, file-table, file-size
 use Rattle.model.proofs.Demand2.{store-elements}
 use Rattle.model.proofs.LabelWords.{labelOf-good}
 use Rattle.model.proofs.Decode.{starts}
+use Rattle.model.proofs.Parents.{parentCheck-iff}
 
 -- an answer that hangs on its refusal is, where it is refused, the refused one
 refused-is : {A : Type 0} (refusal : A → Option Refusal) (o : Option Refusal) (a : A) (f : Refusal → A) → refusal a ≡ none →
@@ -56,20 +56,8 @@ length-slice (some r) a f n h k = k r
 
 -- an accepted entry's parent is above the deepest level
 parent-above : (cl : Clues) (l : Label) (es : List Element) (name : ℕ) → parentCheck cl (find l es) name ≡ none → length (elementAt l es .label) < maxDepth
-unfolding parentCheck elementAt elim?
-parent-above cl l es name e = go (find l es) e
-  where
-    at : (p : Element) (o : Option ℕ) →
-        elim? o (refuse notInClue 0) (λ k.
-        first (check (ltb (length (p .label)) maxDepth) tooDeep 0 ∷ check (leb (number (length (cl (p .name))) k (p .next)) maxComponent) noNumber 0 ∷ [])) ≡
-        none → length (p .label) < maxDepth
-    at p none e = absurd (Option·some-ne-none _ e)
-    at p (some k) e = ltb→lt (length (p .label)) maxDepth (check-none _ _ _ (first-none _ _ e .0))
-
-    go : (o : Option Element) → parentCheck cl o name ≡ none →
-        length (elim? o (record { label = []; name = 0; next = 0; payload0 = 0; payload1 = 0 }) (λ e. e) .label) < maxDepth
-    go none e = absurd (Option·some-ne-none _ e)
-    go (some p) e = at p (placeIn name (cl (p .name))) e
+unfolding elementAt elim?
+parent-above cl l es name e = let f = parentCheck-iff cl (find l es) name .0 e in rw (f .stands) (f .high)
 
 -- the elements after an entry below a parent above the deepest level fit their records
 fit-entered : (cl : Clues) (es : List Element) (p : Element) (name p0 p1 : ℕ) → Fit es → length (p .label) < maxDepth → Fit (entered cl es p name p0 p1)

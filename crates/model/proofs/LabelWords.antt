@@ -1,6 +1,6 @@
 -- Labels laid out in words and read back.
 use mathlib.Core.Path.{_≡_, refl, sym, ap, ap₂, subst, _∙_}
-use mathlib.Core.Logic.{_↔_}
+use mathlib.Core.Logic.{_↔_, Iff·rfl, Iff·trans}
 use mathlib.Core.Bool.{Bool, _&&_}
 use mathlib.Core.List.{List, [], _∷_, _++_, append-assoc}
 use Prim.Native.Nat.{ℕ, zero, suc, _+_, _-_, _≤_, _<_}
@@ -11,7 +11,7 @@ use lib.Dec.{T, leb, eqb, leb→le, le→leb, eqb-refl}
 use Rattle.model.specs.Basics.{all}
 use Rattle.model.specs.Limits.{maxComponent, maxDepth, labelSize}
 use Rattle.model.specs.Labels.{Label, isComponent, labelOf, labelWords, isLabel}
-use Rattle.model.proofs.Tests.{and-iff, eqb-alike}
+use Rattle.model.proofs.Tests.{and-iff, eqb-alike, and-facts}
 use Rattle.model.proofs.Lists.{all-at}
 
 -- zeros, and nothing else, pass the test of being zeros
@@ -41,17 +41,11 @@ unfolding isLabel
 label-tests ws =
     let sizes : Bool = eqb (length ws) labelSize in
     let shallow : Bool = leb (getD ws 0 0) maxDepth in
-    let used : Bool = all isComponent (labelOf ws) in
-    let unused : Bool = all (λ x. eqb x 0) (drop (suc (getD ws 0 0)) ws) in (
-      λ h.
-          let (abc, d) = and-iff (sizes && shallow && used) unused .0 h in
-          let (ab, c) = and-iff (sizes && shallow) used .0 abc in
-          let (a, b) = and-iff sizes shallow .0 ab in
-          (eqb-alike (length ws) labelSize .0 a, leb→le (getD ws 0 0) maxDepth b, c, d),
-      λ p.
-          and-iff (sizes && shallow && used) unused .1
-          (and-iff (sizes && shallow) used .1 (and-iff sizes shallow .1 (eqb-alike (length ws) labelSize .1 (p .0), le→leb (getD ws 0 0) maxDepth (p .1)), p .2), p .3),
-    )
+    Iff·trans
+    (and-facts (sizes && shallow && all isComponent (labelOf ws)) _
+    (and-facts (sizes && shallow) _
+    (and-facts sizes shallow (eqb-alike (length ws) labelSize) (leb→le (getD ws 0 0) maxDepth, le→leb (getD ws 0 0) maxDepth)) Iff·rfl) Iff·rfl)
+    (λ h. (h .0 .0 .0, h .0 .0 .1, h .0 .1, h .1), λ p. (((p .0, p .1), p .2), p .3))
 
 -- words are a label exactly if the four facts hold
 pub isLabel-iff : (ws : List ℕ) → T (isLabel ws) ↔ IsLabel ws

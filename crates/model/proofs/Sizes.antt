@@ -6,7 +6,7 @@ use mathlib.Core.List.{[], _∷_, List}
 use lib.Dec.{T, ltb, leb, eqb, leb→le, ltb→lt, lt→ltb, le→leb}
 use mathlib.Core.Option.{none}
 use lib.ListN.{drop, length, take, length-append, length-drop}
-use mathlib.Core.Logic.{_↔_}
+use mathlib.Core.Logic.{_↔_, Iff·trans}
 use lib.Seq.{drop-at, take-at}
 use native.Mathlib.Omega.{arith}
 use Rattle.model.specs.Store.{elements, isSlice, sizeCheck, records, Element}
@@ -15,9 +15,9 @@ use Rattle.model.specs.Updates.{placed, spaceCheck}
 use Rattle.model.specs.Labels.{Label, within, before}
 use Rattle.model.specs.Limits.{recordSize, maxElements}
 use Rattle.model.specs.Refusals.{noSpace, storeSize}
-use Rattle.model.proofs.Tests.{and-iff, eqb-alike}
+use Rattle.model.proofs.Tests.{eqb-alike, and-facts}
 use Rattle.model.proofs.Lists.{for-cons, here, there}
-use Rattle.model.proofs.Refusals.{check-none, check-passed}
+use Rattle.model.proofs.Refusals.{check-iff}
 
 -- what is written is written from the start
 pub take-over : (ws out : List ℕ) → take (length ws) (over ws out) ≡ ws
@@ -34,13 +34,10 @@ pub length-over : (ws out : List ℕ) → length ws ≤ length out → length (o
 unfolding over
 length-over ws out h = simp (length-append, length-drop) (omega arith)
 
--- the facts of refusal 18 for a new store: the length is a multiple of 20, not 0
+-- a slice's length is accepted for a new store exactly if it is a multiple of 20, not 0
 pub slice-iff : (len : ℕ) → T (isSlice len) ↔ ((len % recordSize ≡ 0) × (0 < len))
 unfolding isSlice
-slice-iff len = (
-  λ h. let (a, b) = and-iff (eqb (len % recordSize) 0) (ltb 0 len) .0 h in (eqb-alike (len % recordSize) 0 .0 a, ltb→lt 0 len b),
-  λ p. and-iff (eqb (len % recordSize) 0) (ltb 0 len) .1 (eqb-alike (len % recordSize) 0 .1 (p .0), lt→ltb 0 len (p .1)),
-)
+slice-iff len = and-facts (eqb (len % recordSize) 0) (ltb 0 len) (eqb-alike (len % recordSize) 0) (ltb→lt 0 len, lt→ltb 0 len)
 
 -- the facts of refusal 18
 pub record Sized (len count : ℕ) : Type 0 where
@@ -54,41 +51,22 @@ pub record Sized (len count : ℕ) : Type 0 where
 pub size-iff : (len count : ℕ) → sizeCheck len count ≡ none ↔ Sized len count
 unfolding sizeCheck
 size-iff len count =
-    let a : Bool = isSlice len in
-    let b : Bool = ltb 0 count in
-    let c : Bool = leb (recordSize * count) len in
-    let d : Bool = leb count maxElements in (
-      λ h.
-          let (abc, few) = and-iff (a && b && c) d .0 (check-none (a && b && c && d) storeSize 0 h) in
-          let (ab, held) = and-iff (a && b) c .0 abc in
-          let (slice, used) = and-iff a b .0 ab in
-          let (whole, positive) = slice-iff len .0 slice in
-          record {
-            whole = whole;
-            positive = positive;
-            used = ltb→lt 0 count used;
-            held = leb→le (recordSize * count) len held;
-            few = leb→le count maxElements few;
-          },
-      λ s.
-          check-passed (a && b && c && d) storeSize 0
-          (and-iff (a && b && c) d .1 (
-            and-iff (a && b) c .1 (and-iff a b .1 (slice-iff len .1 (s .whole, s .positive), lt→ltb 0 count (s .used)), le→leb (recordSize * count) len (s .held)),
-            le→leb count maxElements (s .few),
-          )),
+    let used : Bool = isSlice len && ltb 0 count in
+    let held : Bool = leb (recordSize * count) len in
+    let few : Bool = leb count maxElements in
+    Iff·trans (check-iff (used && held && few) storeSize 0 (and-facts (used && held) few
+    (and-facts used held (and-facts (isSlice len) (ltb 0 count) (slice-iff len) (ltb→lt 0 count, lt→ltb 0 count))
+    (leb→le (recordSize * count) len, le→leb (recordSize * count) len)) (leb→le count maxElements, le→leb count maxElements))) (
+      λ h. record { whole = h .0 .0 .0 .0; positive = h .0 .0 .0 .1; used = h .0 .0 .1; held = h .0 .1; few = h .1 },
+      λ s. ((((s .whole, s .positive), s .used), s .held), s .few),
     )
 
 -- there is a free record exactly if one more fits the slice and fewer than 4,096 are in use
 pub space-iff : (len count : ℕ) → spaceCheck len count ≡ none ↔ ((recordSize * (count + 1) ≤ len) × (count < maxElements))
 unfolding spaceCheck
 space-iff len count =
-    let a : Bool = leb (recordSize * (count + 1)) len in
-    let b : Bool = ltb count maxElements in (
-      λ h.
-          let (held, few) = and-iff a b .0 (check-none (a && b) noSpace 0 h) in
-          (leb→le (recordSize * (count + 1)) len held, ltb→lt count maxElements few),
-      λ p. check-passed (a && b) noSpace 0 (and-iff a b .1 (le→leb (recordSize * (count + 1)) len (p .0), lt→ltb count maxElements (p .1))),
-    )
+    check-iff _ noSpace 0 (and-facts (leb (recordSize * (count + 1)) len) (ltb count maxElements)
+    (leb→le (recordSize * (count + 1)) len, le→leb (recordSize * (count + 1)) len) (ltb→lt count maxElements, lt→ltb count maxElements))
 
 -- as many records are read as there are
 pub length-elements-read : (count : ℕ) (ws : List ℕ) → length (elements count ws) ≡ count

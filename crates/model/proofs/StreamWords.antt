@@ -6,9 +6,10 @@ use Prim.Native.Nat.{ℕ, suc, _+_, _*_, _≤_}
 use native.Mathlib.Omega.{arith}
 use lib.ListN.{length, getD, take, drop, length-map, length-append, List·getD-map}
 use lib.Seq.{take-at, drop-at}
-use lib.Dec.{T, leb, le→leb}
+use lib.Dec.{T, leb, le→leb, eqb}
+use mathlib.Core.Logic.{_↔_, _⊎_, inl}
 use Rattle.model.specs.Basics.{_∈_, elim?, all, keep, joined, total, Ascending, none-left, one-more}
-use Rattle.model.specs.Limits.{maxDepth, maxElements, labelSize}
+use Rattle.model.specs.Limits.{maxDepth, maxElements, labelSize, anyName}
 use Rattle.model.specs.Names.{Clues}
 use Rattle.model.specs.Labels.{Label, before, labelWords, labelOf}
 use Rattle.model.specs.Twigs.{Twig, wanted, leafNames}
@@ -16,14 +17,24 @@ use Rattle.model.specs.Matches.{GoodStreams, fits, asks, labelsWords}
 use Rattle.model.specs.Store.{Element}
 use Rattle.model.specs.Cutting.{stream, streams}
 use Rattle.model.specs.Matching.{labelsIn, dealt, inStream, streamCheck, labelsCheck, streamsCheck}
-use Rattle.model.proofs.Tests.{and-iff, eqb-alike}
-use Rattle.model.proofs.Lists.{here, there, for-map, keep-iff, keep-ascending, map-ascending, length-keep}
+use Rattle.model.proofs.Tests.{and-iff, eqb-alike, or-facts}
+use Rattle.model.proofs.Lists.{here, there, for-map, keep-iff, keep-ascending, map-ascending, length-keep, keep-all}
 use Rattle.model.proofs.LabelWords.{GoodLabel, labelOf-labelWords, labelWords-good, length-labelWords}
 use Rattle.model.proofs.MatchWords.{length-labelsWords}
 use Rattle.model.proofs.Words.{Fit}
 use Rattle.model.proofs.SoundStore.{SoundElements}
 use Rattle.model.proofs.Refusals.{check-passed, first-passed, last-passed}
 use Rattle.model.proofs.StreamChecks.{GoodStream, Later, nothing-good, each-good, inStream-iff, streamCheck-next, length-wanted}
+
+-- a name is asked for exactly by itself and by 255
+pub asks-iff : (want name : ℕ) → T (asks want name) ↔ ((want ≡ anyName) ⊎ (want ≡ name))
+unfolding asks
+asks-iff want name = or-facts (eqb want anyName) (eqb want name) (eqb-alike want anyName) (eqb-alike want name)
+
+-- the stream of 255 has the labels of all elements
+pub stream-all : (es : List Element) → stream anyName es ≡ map (λ e. e .label) es
+unfolding stream
+stream-all es = ap (map (λ (e : Element). e .label)) (keep-all (λ e. asks anyName (e .name)) es (λ e m. asks-iff anyName (e .name) .1 (inl refl)))
 
 -- what holds of the label of every element that a name asks for holds of every label of the stream
 pub for-stream : (P : Label → Type 0) (want : ℕ) (es : List Element) → ((e : Element) → e ∈ es → T (asks want (e .name)) → P (e .label)) →

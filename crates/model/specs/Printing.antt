@@ -60,6 +60,10 @@ fileWords [] = []
 fileWords (a ∷ []) = []
 fileWords (a ∷ b ∷ bytes) = (a + 256 * b) ∷ fileWords bytes
 
+-- the check of a store's file by its length, 18: also a length not a multiple of 40, or over 64,000 bytes
+unfoldable pub storeFileCheck : ℕ → Option Refusal
+storeFileCheck len = check (ltb 0 len && leb len maxBytes && eqb (len % (2 * recordSize)) 0) storeSize 0
+
 -- the records of a store's file: 40 bytes each
 unfoldable pub fileCount : List ℕ → ℕ
 fileCount store = length store / (2 * recordSize)
@@ -73,17 +77,17 @@ unfoldable pub fileMatches : Clues → List ℕ → List ℕ → List Match
 fileMatches cl store twig =
     fullList cl (rootOf (fileWords store)) (readTwig twig) (fileElements store)
 
--- words fit a buffer of 64,000 bytes
+-- the check of a buffer of 64,000 bytes, 17
 unfoldable pub bufferCheck : List ℕ → Option Refusal
 bufferCheck ws = check (leb (2 * length ws) maxBytes) shortOutput 0
 
--- the checks: 1 to 3, 18 (also a length not a multiple of 40, or over 64,000), 19, 4 to 8, 17 for the streams, 17 for the matches
+-- the checks: 1 to 3, 18, 19, 4 to 8, 17 for the streams, 17 for the matches
 unfoldable pub printRefusal : List ℕ → List ℕ → List ℕ → Option Refusal
 printRefusal names store twig =
     let cl = cluesOf (readNames names .table) in
     first
     (fileCheck names
-    ∷ check (ltb 0 (length store) && leb (length store) maxBytes && eqb (length store % (2 * recordSize)) 0) storeSize 0
+    ∷ storeFileCheck (length store)
     ∷ soundCheck cl (fileCount store) (fileWords store)
     ∷ twigCheck twig
     ∷ bufferCheck (labelsWords (joined (streams (readTwig twig) (fileElements store))))

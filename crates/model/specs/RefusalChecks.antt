@@ -4,8 +4,8 @@ use mathlib.Core.List.{List, [], _∷_, _++_, map}
 use lib.ListN.{replicate}
 use mathlib.Core.Bool.{cond}
 use lib.Dec.{eqb}
-use Rattle.model.specs.Bench.{Check, element, is, shown, benchFile, benchTable, garageStore}
-use Rattle.model.specs.Labels.{Label, decodeCall, labelWords, labelCheck}
+use Rattle.model.specs.Bench.{Check, element, is, shown, benchFile, garageStore}
+use Rattle.model.specs.Labels.{decodeCall, labelWords, labelCheck}
 use Rattle.model.specs.Store.{elementWords, storeWords}
 use Rattle.model.specs.Refusals.{fileLength, nameTooHigh, pairAgain, twigLength, twigParent, twigEdge, nameAsked, twigEnd, noRecord, notInClue, tooDeep, noNumber, noSpace, rootStays, notLabel, emptyClue, shortOutput, storeSize, unsound, badStream, badRoot, badTable}
 use Rattle.model.specs.Limits.{filler, maxName, noParent, recordSize, tableSize, maxFile, maxComponent, maxDepth, anyName, maxElements, labelSize, nodeSize, maxTwig, maxBytes}
@@ -26,7 +26,11 @@ tornTable = (64 ∷ []) ∷ []
 unfoldable pub loopTable : List (List ℕ)
 loopTable = (0 ∷ filler ∷ []) ∷ []
 
--- under it, a store that goes down to depth 15
+-- a table in which name 1 may stand below name 0, and name 2 below name 1
+unfoldable pub lineTable : List (List ℕ)
+lineTable = (1 ∷ filler ∷ []) ∷ (2 ∷ filler ∷ []) ∷ []
+
+-- under the loop, a store that goes down to depth 15
 unfoldable pub deepStore : List ℕ
 deepStore = storeWords (map (λ depth. element (replicate depth 0) 0 (cond (eqb depth maxDepth) 0 1)) (upTo 16)) ++ replicate recordSize 7
 
@@ -42,13 +46,9 @@ torn = replicate recordSize 9
 unfoldable pub chainTwig : ℕ → List ℕ
 chainTwig n = joined (map (λ i. cond (eqb i 0) noParent (i - 1) ∷ descendantEdge ∷ anyName ∷ 0 ∷ []) (upTo n))
 
--- a twig that asks for vehicles
-unfoldable pub vehicleTwig : List ℕ
-vehicleTwig = noParent ∷ descendantEdge ∷ 1 ∷ 0 ∷ []
-
--- labels in a buffer
-unfoldable pub buffer : List Label → List ℕ
-buffer ls = labelsWords ls
+-- a twig that asks for name 1
+unfoldable pub oneTwig : List ℕ
+oneTwig = noParent ∷ descendantEdge ∷ 1 ∷ 0 ∷ []
 
 -- the limits are the paper's
 unfoldable pub limits : List ℕ
@@ -159,19 +159,19 @@ cutRefusals =
 unfoldable pub matchRefusals : List Check
 matchRefusals =
     is (shown (matchCall tornTable 64 [] [] [] [] .refusal)) (22 ∷ 0 ∷ [])
-    ∷ is (shown (matchCall benchTable 64 [] [] [] [] .refusal)) (21 ∷ 0 ∷ [])
-    ∷ is (shown (matchCall benchTable 0 [] (1 ∷ []) [] [] .refusal)) (4 ∷ 0 ∷ [])
-    ∷ is (shown (matchCall benchTable 0 vehicleTwig [] [] [] .refusal)) (20 ∷ 0 ∷ [])
-    ∷ is (shown (matchCall benchTable 0 vehicleTwig (1 ∷ 0 ∷ []) (buffer ((0 ∷ []) ∷ [])) [] .refusal)) (20 ∷ 0 ∷ [])
-    ∷ is (shown (matchCall benchTable 0 vehicleTwig (2 ∷ []) (buffer ((0 ∷ []) ∷ [])) [] .refusal)) (20 ∷ 0 ∷ [])
-    ∷ is (shown (matchCall benchTable 0 vehicleTwig (3 ∷ []) (buffer ((0 ∷ []) ∷ (2 ∷ []) ∷ (1 ∷ []) ∷ [])) [] .refusal)) (20 ∷ 2 ∷ [])
-    ∷ is (shown (matchCall benchTable 0 vehicleTwig (3 ∷ []) (buffer ((0 ∷ []) ∷ (2 ∷ []) ∷ (2 ∷ []) ∷ [])) [] .refusal)) (20 ∷ 2 ∷ [])
-    ∷ is (shown (matchCall benchTable 0 vehicleTwig (2 ∷ []) (buffer ((0 ∷ []) ∷ (0 ∷ 0 ∷ []) ∷ [])) [] .refusal)) (20 ∷ 1 ∷ [])
-    ∷ is (shown (matchCall benchTable 5 vehicleTwig (1 ∷ []) (buffer ((0 ∷ []) ∷ [])) [] .refusal)) (20 ∷ 0 ∷ [])
-    ∷ is (shown (matchCall benchTable 0 vehicleTwig (2 ∷ []) (buffer ((0 ∷ []) ∷ []) ++ replicate 16 1) [] .refusal)) (20 ∷ 1 ∷ [])
-    ∷ is (shown (matchCall benchTable 0 vehicleTwig (1 ∷ []) (buffer ((0 ∷ []) ∷ [])) (replicate 15 7) .refusal)) (17 ∷ 0 ∷ [])
-    ∷ is (shown (matchCall benchTable 0 vehicleTwig (1 ∷ []) (buffer ((0 ∷ []) ∷ [])) (replicate 16 7) .refusal)) []
-    ∷ is (shown (matchCall benchTable 0 vehicleTwig (0 ∷ []) [] [] .refusal)) []
+    ∷ is (shown (matchCall lineTable 64 [] [] [] [] .refusal)) (21 ∷ 0 ∷ [])
+    ∷ is (shown (matchCall lineTable 0 [] (1 ∷ []) [] [] .refusal)) (4 ∷ 0 ∷ [])
+    ∷ is (shown (matchCall lineTable 0 oneTwig [] [] [] .refusal)) (20 ∷ 0 ∷ [])
+    ∷ is (shown (matchCall lineTable 0 oneTwig (1 ∷ 0 ∷ []) (labelsWords ((0 ∷ []) ∷ [])) [] .refusal)) (20 ∷ 0 ∷ [])
+    ∷ is (shown (matchCall lineTable 0 oneTwig (2 ∷ []) (labelsWords ((0 ∷ []) ∷ [])) [] .refusal)) (20 ∷ 0 ∷ [])
+    ∷ is (shown (matchCall lineTable 0 oneTwig (3 ∷ []) (labelsWords ((0 ∷ []) ∷ (2 ∷ []) ∷ (1 ∷ []) ∷ [])) [] .refusal)) (20 ∷ 2 ∷ [])
+    ∷ is (shown (matchCall lineTable 0 oneTwig (3 ∷ []) (labelsWords ((0 ∷ []) ∷ (2 ∷ []) ∷ (2 ∷ []) ∷ [])) [] .refusal)) (20 ∷ 2 ∷ [])
+    ∷ is (shown (matchCall lineTable 0 oneTwig (2 ∷ []) (labelsWords ((0 ∷ []) ∷ (0 ∷ 0 ∷ []) ∷ [])) [] .refusal)) (20 ∷ 1 ∷ [])
+    ∷ is (shown (matchCall lineTable 5 oneTwig (1 ∷ []) (labelsWords ((0 ∷ []) ∷ [])) [] .refusal)) (20 ∷ 0 ∷ [])
+    ∷ is (shown (matchCall lineTable 0 oneTwig (2 ∷ []) (labelsWords ((0 ∷ []) ∷ []) ++ replicate 16 1) [] .refusal)) (20 ∷ 1 ∷ [])
+    ∷ is (shown (matchCall lineTable 0 oneTwig (1 ∷ []) (labelsWords ((0 ∷ []) ∷ [])) (replicate 15 7) .refusal)) (17 ∷ 0 ∷ [])
+    ∷ is (shown (matchCall lineTable 0 oneTwig (1 ∷ []) (labelsWords ((0 ∷ []) ∷ [])) (replicate 16 7) .refusal)) []
+    ∷ is (shown (matchCall lineTable 0 oneTwig (0 ∷ []) [] [] .refusal)) []
     ∷ []
 
 -- the program: 1 to 3, 18, 19, 4 to 8, 17
