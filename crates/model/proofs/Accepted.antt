@@ -1,25 +1,26 @@
 -- What demand 3 says of an accepted entry and of an accepted deletion.
 use mathlib.Core.Path.{_≡_, refl, sym, ap, subst, _∙_}
-use mathlib.Core.List.{List, Memᴰ·cast, Memᴰ·map}
-use Prim.Native.Nat.{ℕ, _+_}
 use mathlib.Core.Bool.{cond}
-use lib.ListN.{length}
+use mathlib.Core.List.{List, Memᴰ·cast, Memᴰ·map, _++_, _∷_, []}
 use mathlib.Core.Option.{none}
-use Rattle.model.specs.Book.{moved, Book, Line, Call, answer, deletion, entry, bookAfter}
-use Rattle.model.specs.Labels.{Label, same, labelOf}
-use Rattle.model.specs.Cutting.{fullList}
-use Rattle.model.specs.Demand3.{Next, Accepted, DeletionHolds, EntryHolds}
+use Prim.Native.Nat.{ℕ, _+_}
+use lib.ListN.{length}
 use Rattle.model.specs.Names.{cluesOf}
-use Rattle.model.specs.Updates.{Answer}
+use Rattle.model.specs.Labels.{Label, same, labelOf, decodeCall}
 use Rattle.model.specs.Twigs.{readTwig}
-use Rattle.model.proofs.Calls.{Ready}
+use Rattle.model.specs.Updates.{Answer}
+use Rattle.model.specs.Cutting.{fullList}
+use Rattle.model.specs.Book.{moved, Book, Line, Call, answer, deletion, entry, bookAfter, childLine}
+use Rattle.model.specs.Demand3.{Next, Accepted, DeletionHolds, EntryHolds}
 use Rattle.model.proofs.Tests.{is-false, is-true}
-use Rattle.model.proofs.LabelOrder.{same-alike}
-use Rattle.model.proofs.Answers.{parent, deletion-found, refused-alike, deletion-book, refused-holds, num, deletion-answer, entry-answer, entry-book, entry-length}
-use Rattle.model.proofs.InOrder.{lineAt-mem, struck-iff}
-use Rattle.model.proofs.Streams.{deletion-matches, entry-matches}
 use Rattle.model.proofs.Lists.{here, there}
+use Rattle.model.proofs.LabelOrder.{same-alike}
+use Rattle.model.proofs.LabelCalls.{decode-call}
 use Rattle.model.proofs.TwigBytes.{accepted-twig}
+use Rattle.model.proofs.InOrder.{lineAt-mem, struck-iff}
+use Rattle.model.proofs.Calls.{Ready}
+use Rattle.model.proofs.Answers.{parent, deletion-found, refused-alike, deletion-book, refused-holds, num, deletion-answer, entry-answer, entry-book, entry-length, entry-good}
+use Rattle.model.proofs.Streams.{deletion-matches, entry-matches}
 
 -- a line with another label is not moved
 unmoved : (l : Label) (f : ℕ) (x : Line) → (x .label ≡ l → ⊥) → x ≡ moved l f x
@@ -54,6 +55,7 @@ module _ {rows : List (List ℕ)} {root : ℕ} {b : Book} {g : List Label} {slic
       let (stands, label) = lineAt-mem (labelOf lw) b x (p .found) in
       let f = num ready lw name p0 p1 e in
       let a = entry-answer ready lw name p0 p1 e in
+      let good = entry-good ready lw name p0 p1 e in
       subst (λ after. EntryHolds rows root (length b) b after slice lw name p0 p1) (sym (entry-book ready lw name p0 p1 e)) (record {
         parent = x;
         found = p .found;
@@ -62,9 +64,15 @@ module _ {rows : List (List ℕ)} {root : ℕ} {b : Book} {g : List Label} {slic
         numbered = refl;
         added = here refl;
         answered = ap (λ (a : Answer). a .label) a;
+        decoded =
+            let line = good .lines (childLine x f name p0 p1) (here refl) in
+            ap (λ (a : Answer). decodeCall rows root (a .label)) a ∙
+            decode-call rows root (x .label ++ (f ∷ [])) (ready .table) (good .rootIsName) (line .labelled)
+            (x .names ++ (name ∷ [])) (line .decodes);
         parentMoved = there (Memᴰ·cast (moved-next (f + 1) x) (Memᴰ·map (moved (x .label) (f + 1)) stands));
         othersStay = λ y m n. there (Memᴰ·cast (unmoved (x .label) (f + 1) y (λ d. n (d ∙ label))) (Memᴰ·map (moved (x .label) (f + 1)) m));
         oneMore = entry-length ready lw name p0 p1 e;
+        counted = ap (λ (a : Answer). a .count) a ∙ sym (entry-length ready lw name p0 p1 e);
         words = ap (λ (a : Answer). a .slice) a;
         matched = λ bytes ok. entry-matches (ready .good) stands (p .suits) p0 p1 (readTwig bytes) (accepted-twig bytes ok);
       })
@@ -79,6 +87,7 @@ module _ {rows : List (List ℕ)} {root : ℕ} {b : Book} {g : List Label} {slic
         struckLine = x;
         found = f;
         stays = struck-iff (labelOf lw) b;
+        counted = ap (λ (a : Answer). a .count) (deletion-answer ready lw e);
         words = ap (λ (a : Answer). a .slice) (deletion-answer ready lw e);
         matched = λ bytes ok. deletion-matches (ready .good) (labelOf lw) (readTwig bytes) (accepted-twig bytes ok);
       })

@@ -1,25 +1,25 @@
 -- Over every run the numbers given are the article's, but for the corner; where nothing was deleted the labels given out are those of the lines.
 use mathlib.Core.Path.{_≡_, refl, ap, subst, _∙_, sym}
+use mathlib.Core.List.{List}
 use mathlib.Core.Option.{Option, none, some}
 use Prim.Native.Nat.{ℕ, _<_, _%_, _+_, _*_}
 use lib.ListN.{length, take}
-use mathlib.Core.List.{List}
-use Rattle.model.specs.Claims.{NothingDeleted, ArticleNumbers, lastBelow}
+use Rattle.model.specs.Basics.{elim?, last}
+use Rattle.model.specs.Limits.{recordSize}
+use Rattle.model.specs.Refusals.{Refusal}
+use Rattle.model.specs.Names.{cluesOf}
+use Rattle.model.specs.Numbers.{number, articleNumber}
+use Rattle.model.specs.Labels.{Label}
 use Rattle.model.specs.Updates.{given}
 use Rattle.model.specs.Book.{lineElement, opened, called, Book, bookWords, deletion, Call, answer, bookAfter, givenOut, entry}
-use Rattle.model.specs.Basics.{elim?, last}
-use Rattle.model.specs.Numbers.{number, articleNumber}
-use Rattle.model.specs.Names.{cluesOf}
-use Rattle.model.specs.Limits.{recordSize}
-use Rattle.model.specs.Labels.{Label}
-use Rattle.model.specs.Refusals.{Refusal}
-use Rattle.model.proofs.Article.{article-first, article-agrees}
-use Rattle.model.proofs.InOrder.{lineAt-mem, labels, labels-moved}
-use Rattle.model.proofs.Run.{left, given-refused}
+use Rattle.model.specs.Claims.{NothingDeleted, ArticleNumbers, lastBelow}
 use Rattle.model.proofs.NameTables.{placed-at}
+use Rattle.model.proofs.Article.{article-first, article-agrees}
+use Rattle.model.proofs.LabelWords.{labelOf-labelWords}
+use Rattle.model.proofs.InOrder.{lineAt-mem, labels, labels-moved}
 use Rattle.model.proofs.Calls.{Ready}
 use Rattle.model.proofs.Answers.{entry-answer, entry-book, refused-holds}
-use Rattle.model.proofs.LabelWords.{labelOf-labelWords}
+use Rattle.model.proofs.Run.{left, given-refused}
 
 -- the number given below a line is the article's after the number given last
 pub article-numbers : ArticleNumbers

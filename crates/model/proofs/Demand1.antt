@@ -1,31 +1,31 @@
 -- Demand 1: what a refused call leaves, and that every buffer keeps its length.
 use mathlib.Core.Path.{_≡_, refl, sym, ap, _∙_}
+use mathlib.Core.Bool.{not}
+use mathlib.Core.List.{List, [], _∷_, _++_}
 use mathlib.Core.Option.{Option, none, some, Option·none-ne-some, Option·some-injective}
 use Prim.Native.Nat.{ℕ, _≤_, suc, _<_, _+_, _*_, _-_}
-use mathlib.Core.List.{List, [], _∷_, _++_}
-use lib.ListN.{length, length-map, length-append, replicate, length-replicate}
-use mathlib.Core.Bool.{not}
 use native.Mathlib.Omega.{arith}
+use lib.ListN.{length, length-map, length-append, replicate, length-replicate}
 use lib.Dec.{leb→le}
 use Rattle.model.specs.Basics.{elim?}
-use Rattle.model.specs.Cutting.{listed, Listing, cut, cutRefusal, roomCheck}
+use Rattle.model.specs.Limits.{labelSize, maxDepth, recordSize}
 use Rattle.model.specs.Refusals.{Refusal}
-use Rattle.model.specs.Updates.{Answer, delete, enter, entered, newStore, parentCheck, deletionRefusal, entryRefusal, newStoreRefusal, raised, given, without}
+use Rattle.model.specs.Names.{Clues, cluesOf}
 use Rattle.model.specs.Labels.{decodeCall, decodeRefusal, Label, labelOf, within, Decoding, labelCheck, namesIn, Decoded, decode, path, stuck}
 use Rattle.model.specs.Store.{sizeCheck, elementAt, soundCheck, Element, elements, find, storeWords, elementWords}
-use Rattle.model.specs.Names.{Clues, cluesOf}
-use Rattle.model.specs.Limits.{labelSize, maxDepth, recordSize}
+use Rattle.model.specs.Updates.{Answer, delete, enter, entered, newStore, parentCheck, deletionRefusal, entryRefusal, newStoreRefusal, raised, given, without}
+use Rattle.model.specs.Cutting.{listed, Listing, cut, cutRefusal, roomCheck}
 use Rattle.model.specs.Matching.{matchCall, matchRefusal}
 use Rattle.model.specs.Demand1.{Demand1}
-use Rattle.model.proofs.Sizes.{length-over, length-placed, slice-iff, placed-only, length-elements-read, space-iff, take-over, drop-over, size-iff}
-use Rattle.model.proofs.Refusals.{first-none, check-none}
-use Rattle.model.proofs.Words.{Fit, length-elementWords, length-storeWords}
 use Rattle.model.proofs.Lists.{keep-iff, length-keep, for-map}
+use Rattle.model.proofs.Refusals.{first-none, check-none}
 use Rattle.model.proofs.NameFiles.{refused-table, file-table, file-size, file-rows}
-use Rattle.model.proofs.Demand2.{store-elements}
-use Rattle.model.proofs.LabelWords.{labelOf-good}
 use Rattle.model.proofs.Decode.{starts}
+use Rattle.model.proofs.LabelWords.{labelOf-good}
+use Rattle.model.proofs.Words.{Fit, length-elementWords, length-storeWords}
+use Rattle.model.proofs.Sizes.{length-over, length-placed, slice-iff, placed-only, length-elements-read, space-iff, take-over, drop-over, size-iff}
 use Rattle.model.proofs.Parents.{parentCheck-iff}
+use Rattle.model.proofs.Demand2.{store-elements}
 
 -- an answer that hangs on its refusal is, where it is refused, the refused one
 refused-is : {A : Type 0} (refusal : A → Option Refusal) (o : Option Refusal) (a : A) (f : Refusal → A) → refusal a ≡ none →

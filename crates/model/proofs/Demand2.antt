@@ -1,33 +1,33 @@
 -- Demand 2: the list of matches, and what streams cut from a sound store give.
-use mathlib.Core.Path.{_≡_, refl, ap}
-use Prim.Native.Nat.{ℕ, zero, suc, _≤_, _*_}
+use mathlib.Core.Path.{_≡_, refl, ap, sym, _∙_}
 use mathlib.Core.List.{List, []}
-use lib.Dec.{T}
-use lib.ListN.{length, getD, length-append}
 use mathlib.Core.Option.{none}
+use Prim.Native.Nat.{ℕ, zero, suc, _≤_, _*_}
 use native.Mathlib.Omega.{arith}
-use Rattle.model.specs.Names.{Clues, tableCheck, cluesOf}
-use Rattle.model.specs.Demand2.{Demand2, ListHolds, StoreHolds}
-use Rattle.model.specs.Labels.{Label, within}
-use Rattle.model.specs.Store.{rootOf, sizeCheck, soundCheck, elements}
-use Rattle.model.specs.Twigs.{Twig, twigCheck, GoodTwig, readTwig, wanted}
-use Rattle.model.specs.Matching.{streamsCheck, dealt}
+use lib.ListN.{length, getD, length-append}
+use lib.Dec.{T}
 use Rattle.model.specs.Basics.{_∈_}
-use Rattle.model.specs.Matches.{Match, matchWords, IsMatch, matches}
 use Rattle.model.specs.Limits.{labelSize, maxDepth}
-use Rattle.model.proofs.LabelOrder.{within-iff}
-use Rattle.model.proofs.SoundStore.{SoundElements, sound-elements}
-use Rattle.model.proofs.LabelWords.{GoodLabel}
-use Rattle.model.proofs.Listings.{Stored, cut-listed, match-listed}
-use Rattle.model.proofs.Sizes.{size-iff, length-elements-read}
-use Rattle.model.proofs.TwigBytes.{accepted-twig}
-use Rattle.model.proofs.Faults.{sound-check}
-use Rattle.model.proofs.StreamWords.{streams-sound}
-use Rattle.model.proofs.Matches.{matches-ascending, leaf-below, matches-iff}
+use Rattle.model.specs.Names.{Clues, tableCheck, cluesOf}
+use Rattle.model.specs.Labels.{Label, within}
+use Rattle.model.specs.Twigs.{Twig, twigCheck, GoodTwig, readTwig, wanted}
+use Rattle.model.specs.Matches.{Match, matchWords, IsMatch, matches}
+use Rattle.model.specs.Store.{rootOf, sizeCheck, soundCheck, elements}
+use Rattle.model.specs.Matching.{streamsCheck, dealt, matchCall, matchesOf}
+use Rattle.model.specs.Demand2.{Demand2, ListHolds, StoreHolds}
 use Rattle.model.proofs.Lists.{member-at}
-use Rattle.model.proofs.StreamChecks.{streams-accepted, streams-labels}
-use Rattle.model.proofs.MatchWords.{length-matchWords}
+use Rattle.model.proofs.LabelOrder.{within-iff}
+use Rattle.model.proofs.TwigBytes.{accepted-twig}
+use Rattle.model.proofs.Matches.{matches-ascending, leaf-below, matches-iff}
 use Rattle.model.proofs.Paths.{path-solutions}
+use Rattle.model.proofs.LabelWords.{GoodLabel}
+use Rattle.model.proofs.MatchWords.{length-matchWords}
+use Rattle.model.proofs.Sizes.{size-iff, length-elements-read}
+use Rattle.model.proofs.Faults.{sound-check}
+use Rattle.model.proofs.SoundStore.{SoundElements, sound-elements}
+use Rattle.model.proofs.StreamChecks.{streams-accepted, streams-labels}
+use Rattle.model.proofs.StreamWords.{streams-sound}
+use Rattle.model.proofs.Listings.{Stored, cut-listed, match-listed, listed-whole, listed-refusal}
 
 -- an ancestor's label is no longer than a descendant's
 within-length : (up low : Label) → T (within up low) → length up ≤ length low
@@ -90,4 +90,9 @@ store-holds rows ws count table size sound =
 
 -- the whole demand
 pub demand2 : Demand2
-demand2 = record { lists = list-holds; stores = store-holds }
+unfolding matchCall matchesOf
+demand2 = record {
+  lists = list-holds;
+  matchings = λ rows root bytes counts buffer out e. listed-whole _ _ _ out (sym (listed-refusal _ _ _ out) ∙ e);
+  stores = store-holds;
+}

@@ -1,22 +1,22 @@
 -- The files of the program that prints: their lengths, and what an accepted one holds.
 use mathlib.Core.Path.{_≡_, refl}
-use mathlib.Core.List.{[], _∷_, List}
-use Prim.Native.Nat.{ℕ, _*_, _%_, _≤_, _+_, _<_, _/_}
-use lib.ListN.{length}
-use mathlib.Core.Option.{none}
 use mathlib.Core.Logic.{_↔_}
+use mathlib.Core.Bool.{_&&_}
+use mathlib.Core.List.{[], _∷_, List}
+use mathlib.Core.Option.{none}
+use Prim.Native.Nat.{ℕ, _*_, _%_, _≤_, _+_, _<_, _/_}
 use native.Mathlib.Nat.{mul-mod-right}
 use native.Mathlib.Omega.{arith}
+use lib.ListN.{length}
 use lib.Dec.{leb→le, le→leb, ltb, leb, eqb, ltb→lt, lt→ltb}
-use mathlib.Core.Bool.{_&&_}
-use Rattle.model.specs.Printing.{bufferCheck, fileCount, fileWords, storeFileCheck}
-use Rattle.model.specs.Bench.{wordBytes}
-use Rattle.model.specs.Store.{sizeCheck}
 use Rattle.model.specs.Limits.{maxBytes, recordSize}
 use Rattle.model.specs.Refusals.{shortOutput, storeSize}
-use Rattle.model.proofs.Sizes.{size-iff}
-use Rattle.model.proofs.Refusals.{check-iff}
+use Rattle.model.specs.Store.{sizeCheck}
+use Rattle.model.specs.Printing.{bufferCheck, fileCount, fileWords, storeFileCheck}
+use Rattle.model.specs.Bench.{wordBytes}
 use Rattle.model.proofs.Tests.{and-facts, eqb-alike}
+use Rattle.model.proofs.Refusals.{check-iff}
+use Rattle.model.proofs.Sizes.{size-iff}
 
 -- a store's file is accepted by its length exactly if that is not 0, at most 64,000 and a multiple of 40
 pub storeFile-iff : (len : ℕ) → storeFileCheck len ≡ none ↔ (((0 < len) × (len ≤ maxBytes)) × (len % (2 * recordSize) ≡ 0))

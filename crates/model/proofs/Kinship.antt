@@ -1,10 +1,10 @@
 -- What two labels share, how one stands to the other, and the edges and the order that follow from it.
-use Prim.Native.Nat.{ℕ, suc, _+_, _≤_, _<_, suc-le-suc}
-use native.Mathlib.Omega.{arith}
 use mathlib.Core.Path.{_≡_, refl, sym, ap, ap₂, subst, _∙_}
 use mathlib.Core.Logic.{_↔_, Iff·rfl, Iff·trans, Iff·and, _⊎_, inl, inr, ⊎-elim, ⊎-map}
-use mathlib.Core.List.{[], _∷_, _++_, append-nil}
 use mathlib.Core.Bool.{Bool, true, false, cond}
+use mathlib.Core.List.{[], _∷_, _++_, append-nil}
+use Prim.Native.Nat.{ℕ, suc, _+_, _≤_, _<_, suc-le-suc}
+use native.Mathlib.Omega.{arith}
 use lib.ListN.{length, take, drop, take-append-drop, length-append}
 use lib.Seq.{length-take-le}
 use lib.Dec.{T, eqb, ltb→lt, lt→ltb, eqb→eq, eqb·suc-zero}

@@ -1,17 +1,18 @@
 -- What the calls on labels alone answer.
-use Prim.Native.Nat.{ℕ, _≤_}
 use mathlib.Core.Path.{_≡_, refl}
 use mathlib.Core.Bool.{Bool, true, false}
 use mathlib.Core.List.{List, [], _∷_}
+use mathlib.Core.Option.{none, Option, some}
+use Prim.Native.Nat.{ℕ, _≤_}
+use lib.ListN.{replicate}
 use lib.Dec.{T, le→leb}
-use mathlib.Core.Option.{none}
-use Rattle.model.specs.Refusals.{check, first, notLabel, value, refused, reply, badRoot}
-use Rattle.model.specs.Labels.{kinship, follows, labelOf, isLabel, labelCheck, kinshipCall, followsCall, decodeCall, decodeRefusal, pathCheck, Label, decode, path, labelWords, namesIn}
-use Rattle.model.specs.Names.{rootCheck, isName, tableCheck, cluesOf}
 use Rattle.model.specs.Basics.{elim?}
-use Rattle.model.specs.Limits.{maxName}
-use Rattle.model.proofs.LabelWords.{GoodLabel, labelOf-labelWords, labelWords-good}
+use Rattle.model.specs.Limits.{maxName, labelSize}
+use Rattle.model.specs.Refusals.{check, first, notLabel, value, refused, reply, badRoot, refuse, emptyClue, Refusal}
+use Rattle.model.specs.Names.{rootCheck, isName, tableCheck, cluesOf}
+use Rattle.model.specs.Labels.{kinship, follows, labelOf, isLabel, labelCheck, kinshipCall, followsCall, decodeCall, decodeRefusal, pathCheck, Label, decode, path, labelWords, namesIn, stuck}
 use Rattle.model.proofs.Refusals.{check-passed}
+use Rattle.model.proofs.LabelWords.{GoodLabel, labelOf-labelWords, labelWords-good}
 
 module _ {A : Type 0} (a b : List ℕ) (x : A) where
   -- a call on two labels answers its value
@@ -57,15 +58,31 @@ module _ (a b : List ℕ) where
   unfolding followsCall
   follows-refused = labels-refused a b (follows (labelOf a) (labelOf b))
 
--- a label that decodes to a path is answered with it
-pub decode-call : (rows : List (List ℕ)) (root : ℕ) (l : Label) (ns : List ℕ) → tableCheck rows ≡ none → root ≤ maxName → GoodLabel l →
-    decode (cluesOf rows) root l ≡ path ns → decodeCall rows root (labelWords l) ≡ record { refusal = none; names = namesIn (path ns) }
-unfolding decodeCall decodeRefusal rootCheck isName labelCheck pathCheck first elim?
-decode-call rows root l ns table small good e =
-    rw (
-      labelOf-labelWords l,
-      e,
-      table,
-      check-passed (isName root) badRoot 0 (le→leb root maxName small),
-      check-passed (isLabel (labelWords l)) notLabel 0 (labelWords-good l good),
-    )
+module _ (rows : List (List ℕ)) (root : ℕ) (l : Label) (table : tableCheck rows ≡ none) (small : root ≤ maxName) (good : GoodLabel l) where
+  -- whether a good label is refused hangs on what it decodes to
+  decode-refusal : decodeRefusal rows root (labelWords l) ≡ pathCheck (decode (cluesOf rows) root l)
+  unfolding decodeRefusal rootCheck isName labelCheck
+  decode-refusal =
+      rw (
+        labelOf-labelWords l,
+        table,
+        check-passed (isName root) badRoot 0 (le→leb root maxName small),
+        check-passed (isLabel (labelWords l)) notLabel 0 (labelWords-good l good),
+      )
+      (only (pathCheck (decode (cluesOf rows) root l)))
+    where
+      only : (o : Option Refusal) → first (none ∷ none ∷ none ∷ o ∷ []) ≡ o
+      only none = unfold first in refl
+      only (some r) = unfold first in refl
+
+  -- a label that decodes to a path is answered with it
+  pub decode-call : (ns : List ℕ) → decode (cluesOf rows) root l ≡ path ns →
+      decodeCall rows root (labelWords l) ≡ record { refusal = none; names = namesIn (path ns) }
+  unfolding decodeCall pathCheck elim?
+  decode-call ns e = rw (decode-refusal, labelOf-labelWords l, e)
+
+  -- a label that is stuck is refused, 16 at the component
+  pub decode-stuck : (i : ℕ) → decode (cluesOf rows) root l ≡ stuck i →
+      decodeCall rows root (labelWords l) ≡ record { refusal = refuse emptyClue i; names = replicate labelSize 0 }
+  unfolding decodeCall pathCheck elim?
+  decode-stuck i e = rw (decode-refusal, labelOf-labelWords l, e)

@@ -5,21 +5,21 @@ use mathlib.Core.Option.{Option, none, some, Option·some-ne-none}
 use Prim.Native.Nat.{ℕ, _≤_}
 use lib.ListN.{length, take}
 use lib.Dec.{leb, le→leb}
-use Rattle.model.specs.Cutting.{listed, Listing, cut, Cuts, cutRefusal, cutWords, roomCheck, stream, fullList, streams}
-use Rattle.model.specs.Store.{Element, soundCheck, elements, sizeCheck}
-use Rattle.model.specs.Refusals.{Refusal, first, shortOutput, badRoot}
-use Rattle.model.specs.Matching.{matchCall, matchRefusal, matchesOf}
 use Rattle.model.specs.Basics.{over, joined}
-use Rattle.model.specs.Names.{tableCheck, cluesOf, rootCheck, isName}
-use Rattle.model.specs.Matches.{labelsWords, matchWords, matches}
-use Rattle.model.specs.Twigs.{nameCheck, twigCheck, leafNames, wanted, readTwig}
 use Rattle.model.specs.Limits.{maxDepth, maxElements, maxName}
-use Rattle.model.proofs.Words.{Fit}
-use Rattle.model.proofs.SoundStore.{SoundElements}
-use Rattle.model.proofs.MatchWords.{length-labelsWords}
-use Rattle.model.proofs.StreamWords.{for-stream, dealt-wanted, streams-laid}
+use Rattle.model.specs.Refusals.{Refusal, first, shortOutput, badRoot}
+use Rattle.model.specs.Names.{tableCheck, cluesOf, rootCheck, isName}
+use Rattle.model.specs.Twigs.{nameCheck, twigCheck, leafNames, wanted, readTwig}
+use Rattle.model.specs.Matches.{labelsWords, matchWords, matches}
+use Rattle.model.specs.Store.{Element, soundCheck, elements, sizeCheck}
+use Rattle.model.specs.Cutting.{listed, Listing, cut, Cuts, cutRefusal, cutWords, roomCheck, stream, fullList, streams}
+use Rattle.model.specs.Matching.{matchCall, matchRefusal, matchesOf}
 use Rattle.model.proofs.Refusals.{check-passed}
+use Rattle.model.proofs.MatchWords.{length-labelsWords}
+use Rattle.model.proofs.Words.{Fit}
 use Rattle.model.proofs.Sizes.{take-over}
+use Rattle.model.proofs.SoundStore.{SoundElements}
+use Rattle.model.proofs.StreamWords.{for-stream, dealt-wanted, streams-laid}
 
 -- a store under an accepted table whose records are sound and read as the elements es
 pub record Stored (rows : List (List ℕ)) (ws : List ℕ) (count root : ℕ) (es : List Element) : Type 0 where

@@ -13,14 +13,13 @@ use lib.Dec.{T, eqb}
 use Rattle.model.specs.Basics.{_∈_, elim?, keep, upTo}
 use Rattle.model.specs.Limits.{maxName, tableSize, filler}
 use Rattle.model.specs.Refusals.{Refusal}
-use Rattle.model.specs.Names.{namesOf, cluesOf, twice, goodRow, tableCheck}
-use Rattle.model.specs.Names.{Pair, pairs, children, fileCheck, rowOf, tableOf, emptyTable, readNames}
+use Rattle.model.specs.Names.{namesOf, cluesOf, twice, goodRow, tableCheck, Pair, pairs, children, fileCheck, rowOf, tableOf, emptyTable, readNames}
 use Rattle.model.proofs.Tests.{Tells, passes, fails, eq?}
 use Rattle.model.proofs.Lists.{here, there, member-at}
 use Rattle.model.proofs.Choices.{length-upTo, map-upTo}
+use Rattle.model.proofs.Once.{pigeonhole}
 use Rattle.model.proofs.NameTables.{row-tests, goodRow-iff, tableCheck-iff}
 use Rattle.model.proofs.NamePairs.{GoodPairs, pairs-good, children-iff, fileCheck-iff, no-pairs}
-use Rattle.model.proofs.Once.{pigeonhole}
 
 -- a clue that can stand in a row: names of which none stands twice
 pub record GoodClue (clue : List ℕ) : Type 0 where

@@ -11,8 +11,7 @@ use lib.Dec.{T, leb, eqb, eqb-refl, T-not, not-T, leb→le, le→leb}
 use Rattle.model.specs.Basics.{_∈_, keep, stands}
 use Rattle.model.specs.Limits.{maxName, maxFile}
 use Rattle.model.specs.Refusals.{Refusal, check, first, fileLength, nameTooHigh, pairAgain}
-use Rattle.model.specs.Names.{isName, twice}
-use Rattle.model.specs.Names.{Pair, pairs, children, pairCheck, pairsCheck, fileCheck}
+use Rattle.model.specs.Names.{isName, twice, Pair, pairs, children, pairCheck, pairsCheck, fileCheck}
 use Rattle.model.proofs.Tests.{and-iff, is-true, eqb-alike, Tells, passes, fails, eq?}
 use Rattle.model.proofs.Lists.{here, there, here-or-there, nowhere, for-cons, for-map, keep-iff}
 use Rattle.model.proofs.Refusals.{check-none, first-both, first-here, check-passed, first-next}

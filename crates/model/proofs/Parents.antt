@@ -17,10 +17,10 @@ use Rattle.model.specs.Store.{Element, find}
 use Rattle.model.specs.Updates.{parentCheck, given}
 use Rattle.model.proofs.Tests.{Tells, passes, fails, decide}
 use Rattle.model.proofs.Lists.{here, there, nowhere, for-cons}
-use Rattle.model.proofs.Refusals.{check-passed, check-failed, first-here, first-next, first-both, check-none}
 use Rattle.model.proofs.LabelOrder.{same?}
-use Rattle.model.proofs.NameTables.{placeIn-none}
+use Rattle.model.proofs.Refusals.{check-passed, check-failed, first-here, first-next, first-both, check-none}
 use Rattle.model.proofs.Once.{stands-iff}
+use Rattle.model.proofs.NameTables.{placeIn-none}
 
 -- no element is found for a label exactly if none has it
 pub find-none : (l : Label) (es : List Element) → find l es ≡ none ↔ ((e : Element) → e ∈ es → e .label ≡ l → ⊥)

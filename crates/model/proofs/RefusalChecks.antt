@@ -2,12 +2,12 @@
 use mathlib.Core.Path.{_≡_, refl}
 use mathlib.Core.List.{[], _∷_, map}
 use Prim.Native.Nat.{suc}
-use Rattle.model.specs.RefusalChecks.{limits, numbers, refusalChecks}
 use Rattle.model.specs.Basics.{upTo}
+use Rattle.model.specs.RefusalChecks.{limits, numbers, refusalChecks}
 use Rattle.model.proofs.Computing.{computing}
 
 -- the limits are the paper's
-pub limits-are : limits ≡ 63 ∷ 64 ∷ 255 ∷ 8192 ∷ 65534 ∷ 15 ∷ 4096 ∷ 16 ∷ 20 ∷ 4 ∷ 32 ∷ 255 ∷ 255 ∷ 64000 ∷ []
+pub limits-are : limits ≡ 63 ∷ 64 ∷ 255 ∷ 8192 ∷ 65534 ∷ 15 ∷ 4096 ∷ 16 ∷ 20 ∷ 16 ∷ 17 ∷ 18 ∷ 4 ∷ 32 ∷ 255 ∷ 255 ∷ 64000 ∷ []
 unfolding computing
 limits-are = refl
 

@@ -1,20 +1,20 @@
 -- Sizes of slices and counts, and what a call writes over a slice.
 use mathlib.Core.Path.{_≡_, refl, ap}
-use mathlib.Core.Bool.{Bool, true, false, cond, _&&_, _||_}
-use Prim.Native.Nat.{zero, suc, ℕ, _%_, _*_, _<_, _≤_, _+_}
-use mathlib.Core.List.{[], _∷_, List}
-use lib.Dec.{T, ltb, leb, eqb, leb→le, ltb→lt, lt→ltb, le→leb}
-use mathlib.Core.Option.{none}
-use lib.ListN.{drop, length, take, length-append, length-drop}
 use mathlib.Core.Logic.{_↔_, Iff·trans}
-use lib.Seq.{drop-at, take-at}
+use mathlib.Core.Bool.{Bool, true, false, cond, _&&_, _||_}
+use mathlib.Core.List.{[], _∷_, List}
+use mathlib.Core.Option.{none}
+use Prim.Native.Nat.{zero, suc, ℕ, _%_, _*_, _<_, _≤_, _+_}
 use native.Mathlib.Omega.{arith}
-use Rattle.model.specs.Store.{elements, isSlice, sizeCheck, records, Element}
+use lib.ListN.{drop, length, take, length-append, length-drop}
+use lib.Seq.{drop-at, take-at}
+use lib.Dec.{T, ltb, leb, eqb, leb→le, ltb→lt, lt→ltb, le→leb}
 use Rattle.model.specs.Basics.{over, _∈_}
-use Rattle.model.specs.Updates.{placed, spaceCheck}
-use Rattle.model.specs.Labels.{Label, within, before}
 use Rattle.model.specs.Limits.{recordSize, maxElements}
 use Rattle.model.specs.Refusals.{noSpace, storeSize}
+use Rattle.model.specs.Labels.{Label, within, before}
+use Rattle.model.specs.Store.{elements, isSlice, sizeCheck, records, Element}
+use Rattle.model.specs.Updates.{placed, spaceCheck}
 use Rattle.model.proofs.Tests.{eqb-alike, and-facts}
 use Rattle.model.proofs.Lists.{for-cons, here, there}
 use Rattle.model.proofs.Refusals.{check-iff}

@@ -1,9 +1,9 @@
 -- What holds of a sound store, from a run or not.
 use mathlib.Core.Path.{_≡_, refl, sym, ap, subst, _∙_}
 use mathlib.Core.Logic.{_⊎_, ⊎-map}
+use mathlib.Core.Bool.{Bool, true, false, cond, _||_, not}
 use mathlib.Core.List.{List, [], _∷_, map}
 use mathlib.Core.Option.{Option, none, some, Option·none-ne-some, Option·some-ne-none}
-use mathlib.Core.Bool.{Bool, true, false, cond, _||_, not}
 use Prim.Native.Nat.{ℕ, suc, _≤_, _<_}
 use native.Mathlib.Omega.{arith}
 use lib.ListN.{length, getD, take, drop, length-take, length-drop}
@@ -17,8 +17,8 @@ use Rattle.model.specs.Store.{Element, Rule, readElement, records, eleme
 use Rattle.model.proofs.Tests.{Tells, passes, or-iff, and-iff, eqb-alike}
 use Rattle.model.proofs.Lists.{here, there, nowhere, for-cons}
 use Rattle.model.proofs.LabelOrder.{before-order, above-last, above-before, same?}
-use Rattle.model.proofs.LabelWords.{GoodLabel, isLabel-iff, labelOf-good, labelOf-take}
 use Rattle.model.proofs.Decode.{name-child}
+use Rattle.model.proofs.LabelWords.{GoodLabel, isLabel-iff, labelOf-good, labelOf-take}
 use Rattle.model.proofs.Relaid.{laid-depth, test-none}
 use Rattle.model.proofs.Faults.{fault-cons}
 

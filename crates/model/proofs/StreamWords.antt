@@ -1,5 +1,6 @@
 -- Streams of sound elements are good, and laid out in one buffer they are accepted and dealt out again.
 use mathlib.Core.Path.{_≡_, refl, ap, ap₂, _∙_}
+use mathlib.Core.Logic.{_↔_, _⊎_, inl}
 use mathlib.Core.List.{List, [], _∷_, _++_, map, append-assoc}
 use mathlib.Core.Option.{Option, none, some}
 use Prim.Native.Nat.{ℕ, suc, _+_, _*_, _≤_}
@@ -7,7 +8,6 @@ use native.Mathlib.Omega.{arith}
 use lib.ListN.{length, getD, take, drop, length-map, length-append, List·getD-map}
 use lib.Seq.{take-at, drop-at}
 use lib.Dec.{T, leb, le→leb, eqb}
-use mathlib.Core.Logic.{_↔_, _⊎_, inl}
 use Rattle.model.specs.Basics.{_∈_, elim?, all, keep, joined, total, Ascending, none-left, one-more}
 use Rattle.model.specs.Limits.{maxDepth, maxElements, labelSize, anyName}
 use Rattle.model.specs.Names.{Clues}
@@ -19,11 +19,11 @@ use Rattle.model.specs.Cutting.{stream, streams}
 use Rattle.model.specs.Matching.{labelsIn, dealt, inStream, streamCheck, labelsCheck, streamsCheck}
 use Rattle.model.proofs.Tests.{and-iff, eqb-alike, or-facts}
 use Rattle.model.proofs.Lists.{here, there, for-map, keep-iff, keep-ascending, map-ascending, length-keep, keep-all}
+use Rattle.model.proofs.Refusals.{check-passed, first-passed, last-passed}
 use Rattle.model.proofs.LabelWords.{GoodLabel, labelOf-labelWords, labelWords-good, length-labelWords}
 use Rattle.model.proofs.MatchWords.{length-labelsWords}
 use Rattle.model.proofs.Words.{Fit}
 use Rattle.model.proofs.SoundStore.{SoundElements}
-use Rattle.model.proofs.Refusals.{check-passed, first-passed, last-passed}
 use Rattle.model.proofs.StreamChecks.{GoodStream, Later, nothing-good, each-good, inStream-iff, streamCheck-next, length-wanted}
 
 -- a name is asked for exactly by itself and by 255

@@ -1,7 +1,7 @@
 -- The bench checks that the paper marks with a star, its printed example, and the examples of source document 004: what is computed, and what is expected.
-use Prim.Native.Nat.{ℕ, _+_, _/_, _%_}
 use mathlib.Core.List.{List, [], _∷_, _++_, map}
 use mathlib.Core.Option.{Option, none, some}
+use Prim.Native.Nat.{ℕ, _+_, _/_, _%_}
 use lib.ListN.{replicate}
 use Rattle.model.specs.Basics.{elim?, last}
 use Rattle.model.specs.Refusals.{Refusal, Reply, value, refused}

@@ -1,9 +1,9 @@
 -- What else holds over every run: when numbers run out, and how they agree with the article's.
-use Prim.Native.Nat.{ℕ, _+_, _*_, _/_, _%_, _≤_}
+use mathlib.Core.Path.{_≡_}
+use mathlib.Core.Bool.{cond}
 use mathlib.Core.List.{List, [], _∷_, map}
 use mathlib.Core.Option.{Option, none, some}
-use mathlib.Core.Bool.{cond}
-use mathlib.Core.Path.{_≡_}
+use Prim.Native.Nat.{ℕ, _+_, _*_, _/_, _%_, _≤_}
 use lib.ListN.{length, take}
 use Rattle.model.specs.Basics.{keep, last}
 use Rattle.model.specs.Limits.{maxComponent, recordSize}

@@ -1,18 +1,18 @@
 -- Cutting: the stream of one name, or of all, written from a store.
-use Prim.Native.Nat.{ℕ, _*_}
+use mathlib.Core.Path.{_≡_}
 use mathlib.Core.List.{List, [], _∷_, map}
 use mathlib.Core.Option.{Option, none, some}
+use Prim.Native.Nat.{ℕ, _*_}
 use lib.ListN.{length, take}
 use lib.Dec.{leb}
-use mathlib.Core.Path.{_≡_}
 use Rattle.model.specs.Basics.{elim?, keep, over}
+use Rattle.model.specs.Limits.{labelSize}
 use Rattle.model.specs.Refusals.{Refusal, check, first, shortOutput}
 use Rattle.model.specs.Names.{cluesOf, tableCheck, Clues}
 use Rattle.model.specs.Labels.{Label}
 use Rattle.model.specs.Twigs.{Twig, nameCheck, wanted}
 use Rattle.model.specs.Matches.{asks, labelsWords, Match, matches}
 use Rattle.model.specs.Store.{Element, elements, sizeCheck, soundCheck}
-use Rattle.model.specs.Limits.{labelSize}
 
 -- the labels of the elements that a name asks for
 unfoldable pub stream : ℕ → List Element → List Label
@@ -41,7 +41,7 @@ listed (some r) count ws out = record { refusal = some r; count = 0; output = ou
 unfoldable pub roomCheck : List ℕ → List ℕ → Option Refusal
 roomCheck ws out = check (leb (length ws) (length out)) shortOutput 0
 
--- cutting: 22, 18, 19, 7, 17
+-- cutting is refused by 22, 18, 19, 7, 17, in this order
 unfoldable pub cutRefusal : List (List ℕ) → List ℕ → ℕ → ℕ → List ℕ → Option Refusal
 cutRefusal rows ws count want out =
     first

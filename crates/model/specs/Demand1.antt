@@ -1,17 +1,17 @@
 -- Demand 1 over the definitions: a refused call alters no lent buffer, and a call that is taken leaves every buffer as long as it was.
-use mathlib.Core.List.{List, []}
-use Prim.Native.Nat.{ℕ, _<_}
 use mathlib.Core.Path.{_≡_}
+use mathlib.Core.List.{List, []}
 use mathlib.Core.Option.{some, none}
+use Prim.Native.Nat.{ℕ, _<_}
 use lib.ListN.{length, getD, replicate, take, drop}
+use Rattle.model.specs.Basics.{over}
+use Rattle.model.specs.Limits.{tableSize, labelSize}
 use Rattle.model.specs.Refusals.{Refusal}
 use Rattle.model.specs.Names.{readNames, emptyTable, tableCheck}
-use Rattle.model.specs.Limits.{tableSize, labelSize}
 use Rattle.model.specs.Labels.{decodeCall}
 use Rattle.model.specs.Updates.{newStore, enter, delete}
 use Rattle.model.specs.Cutting.{cut}
 use Rattle.model.specs.Matching.{matchCall}
-use Rattle.model.specs.Basics.{over}
 
 pub record Demand1 : Type 0 where
   -- the reader of a refused child-name file returns a table of empty clues; whatever it returns is an accepted table of 64 rows of 64

@@ -1,19 +1,19 @@
 -- Demand 2 over the definitions: the list of matches, and what streams cut from a sound store give.
-use Prim.Native.Nat.{ℕ, _≤_, _-_, _*_}
-use mathlib.Core.List.{List, [], map}
 use mathlib.Core.Path.{_≡_}
-use mathlib.Core.Option.{none, some}
 use mathlib.Core.Logic.{_↔_}
+use mathlib.Core.List.{List, [], map}
+use mathlib.Core.Option.{none, some}
+use Prim.Native.Nat.{ℕ, _≤_, _-_, _*_}
 use lib.ListN.{length, getD}
-use Rattle.model.specs.Names.{Clues, cluesOf, tableCheck}
-use Rattle.model.specs.Store.{Element, elements, rootOf, sizeCheck, soundCheck}
-use Rattle.model.specs.Twigs.{Twig, twigCheck, readTwig, wanted, OneLeaf, nameCheck, leafNames}
-use Rattle.model.specs.Labels.{Label, nameAt}
 use Rattle.model.specs.Basics.{_∈_, Ascending, over, joined}
-use Rattle.model.specs.Matches.{earlier, matches, Match, GoodStreams, IsMatch, PathSolution, labelsWords, matchWords}
-use Rattle.model.specs.Matching.{streamsCheck, dealt, matchCall}
-use Rattle.model.specs.Cutting.{streams, stream, cut, Listing, Cuts, fullList, cutWords}
 use Rattle.model.specs.Limits.{labelSize}
+use Rattle.model.specs.Names.{Clues, cluesOf, tableCheck}
+use Rattle.model.specs.Labels.{Label, nameAt}
+use Rattle.model.specs.Twigs.{Twig, twigCheck, readTwig, wanted, OneLeaf, nameCheck, leafNames}
+use Rattle.model.specs.Matches.{earlier, matches, Match, GoodStreams, IsMatch, PathSolution, labelsWords, matchWords}
+use Rattle.model.specs.Store.{Element, elements, rootOf, sizeCheck, soundCheck}
+use Rattle.model.specs.Cutting.{streams, stream, cut, Listing, Cuts, fullList, cutWords}
+use Rattle.model.specs.Matching.{streamsCheck, dealt, matchCall}
 
 -- The list of matches over streams that matching takes.
 pub record ListHolds (cl : Clues) (root : ℕ) (t : Twig) (streams : List (List Label)) : Type 0 where
@@ -50,9 +50,20 @@ pub record StoreHolds (rows : List (List ℕ)) (ws : List ℕ) (count : ℕ) : T
 
 -- Demand 2: of every twig and every streams that matching takes, and of every sound store.
 pub record Demand2 : Type 0 where
+  -- what holds of the list of matches over accepted streams
   pub lists :
       (cl : Clues) (root : ℕ) (bytes counts buffer : List ℕ) → twigCheck bytes ≡ none → streamsCheck cl root (readTwig bytes) counts buffer ≡ none →
       ListHolds cl root (readTwig bytes) (dealt (wanted (readTwig bytes)) counts buffer)
+  -- matching lists them
+  pub matchings :
+      (rows : List (List ℕ)) (root : ℕ) (bytes counts buffer out : List ℕ) → matchCall rows root bytes counts buffer out .refusal ≡ none →
+      matchCall rows root bytes counts buffer out ≡
+      record {
+        refusal = none;
+        count = length (matches (cluesOf rows) root (readTwig bytes) (dealt (wanted (readTwig bytes)) counts buffer));
+        output = over (matchWords (matches (cluesOf rows) root (readTwig bytes) (dealt (wanted (readTwig bytes)) counts buffer))) out;
+      }
+  -- what holds of every sound store
   pub stores :
       (rows : List (List ℕ)) (ws : List ℕ) (count : ℕ) → tableCheck rows ≡ none → sizeCheck (length ws) count ≡ none →
       soundCheck (cluesOf rows) count ws ≡ none → StoreHolds rows ws count

@@ -1,9 +1,9 @@
 -- Demand 3, sentence by sentence beside the paper's section "The book beside the store".
-use Prim.Native.Nat.{ℕ, _+_, _-_, _*_, _≤_, _<_}
-use mathlib.Core.List.{List, [], _∷_, _++_, map}
-use mathlib.Core.Logic.{_↔_}
-use mathlib.Core.Option.{none, some}
 use mathlib.Core.Path.{_≡_}
+use mathlib.Core.Logic.{_↔_}
+use mathlib.Core.List.{List, [], _∷_, _++_, map}
+use mathlib.Core.Option.{none, some}
+use Prim.Native.Nat.{ℕ, _+_, _-_, _*_, _≤_, _<_}
 use lib.ListN.{length, getD, take, replicate}
 use lib.Dec.{T}
 use Rattle.model.specs.Basics.{_∈_, joined, over, Ascending}
@@ -14,10 +14,10 @@ use Rattle.model.specs.Labels.{Label, within, same, labelOf, labelWords,
 use Rattle.model.specs.Twigs.{readTwig, twigCheck, nameCheck, wanted, leafNames}
 use Rattle.model.specs.Matches.{labelsWords, matchWords, less}
 use Rattle.model.specs.Store.{sizeCheck}
-use Rattle.model.specs.Updates.{given}
+use Rattle.model.specs.Updates.{given, newStore}
 use Rattle.model.specs.Cutting.{Listing, stream, cut, Cuts, fullList, cutWords}
 use Rattle.model.specs.Matching.{matchCall}
-use Rattle.model.specs.Book.{Line, Book, Call, entry, deletion, lineElement, lineAt, sooner, inOrder, bookElements, bookWords, bookRefusal, bookAfter, childLine, answer, Run}
+use Rattle.model.specs.Book.{Line, Book, Call, entry, deletion, lineElement, lineAt, sooner, inOrder, bookElements, bookWords, bookRefusal, bookAfter, childLine, answer, Run, rootLine}
 
 -- What holds after the list of calls.
 pub record Held (rows : List (List ℕ)) (root : ℕ) (w : List ℕ) (n : ℕ) (b : Book) (g : List Label) : Type 0 where
@@ -62,18 +62,25 @@ pub record EntryHolds (rows : List (List ℕ)) (root n : ℕ) (b after : Book) (
   pub numbered : num ≡ given (cluesOf rows) (lineElement parent) name
   pub added : childLine parent num name p0 p1 ∈ after
   pub answered : answer rows slice n (entry lw name p0 p1) .label ≡ labelWords (parent .label ++ (num ∷ []))
+  -- decoding it gives its path
+  pub decoded :
+      decodeCall rows root (answer rows slice n (entry lw name p0 p1) .label) ≡
+      record { refusal = none; names = namesIn (path (parent .names ++ (name ∷ []))) }
   -- of the parent's line only the next number changes
   pub parentMoved :
       record { label = parent .label; names = parent .names; next = num + 1; payload0 = parent .payload0; payload1 = parent .payload1 } ∈ after
   -- every other line stays as it was, and there is none besides
   pub othersStay : (x : Line) → x ∈ b → (x .label ≡ labelOf lw → ⊥) → x ∈ after
   pub oneMore : length after ≡ length b + 1
+  -- the count answered is the number of lines
+  pub counted : answer rows slice n (entry lw name p0 p1) .count ≡ length after
   -- every word of the slice
   pub words : answer rows slice n (entry lw name p0 p1) .slice ≡ over (bookWords after) slice
   -- the list after the entry, less the matches that give a twig record the new label, is the list before it
   pub matched :
       (bytes : List ℕ) → twigCheck bytes ≡ none →
-      less (same (parent .label ++ (num ∷ []))) (fullList (cluesOf rows) root (readTwig bytes) (bookElements after)) ≡ fullList (cluesOf rows) root (readTwig bytes) (bookElements b)
+      less (same (parent .label ++ (num ∷ []))) (fullList (cluesOf rows) root (readTwig bytes) (bookElements after)) ≡
+      fullList (cluesOf rows) root (readTwig bytes) (bookElements b)
 
 -- What holds of an accepted deletion.
 pub record DeletionHolds (rows : List (List ℕ)) (root n : ℕ) (b after : Book) (slice lw : List ℕ) : Type 0 where
@@ -82,12 +89,15 @@ pub record DeletionHolds (rows : List (List ℕ)) (root n : ℕ) (b after : Book
   pub found : lineAt (labelOf lw) b ≡ some struckLine
   -- the lines whose label is the one handed in or begins with it are struck, every other line stays as it was
   pub stays : (x : Line) → x ∈ after ↔ (x ∈ b × (T (within (labelOf lw) (x .label)) → ⊥))
+  -- the count answered is the number of lines
+  pub counted : answer rows slice n (deletion lw) .count ≡ length after
   -- every word of the slice: the freed records are zeros
   pub words : answer rows slice n (deletion lw) .slice ≡ over (bookWords after ++ replicate (recordSize * (n - length after)) 0) slice
   -- the list before the deletion, less the matches that give a twig record a struck label, is the list after it
   pub matched :
       (bytes : List ℕ) → twigCheck bytes ≡ none →
-      less (within (labelOf lw)) (fullList (cluesOf rows) root (readTwig bytes) (bookElements b)) ≡ fullList (cluesOf rows) root (readTwig bytes) (bookElements after)
+      less (within (labelOf lw)) (fullList (cluesOf rows) root (readTwig bytes) (bookElements b)) ≡
+      fullList (cluesOf rows) root (readTwig bytes) (bookElements after)
 
 -- What holds of a refused call: it writes nothing, and answers the count it was given and, for an entry, sixteen zeros.
 pub record RefusalHolds (rows : List (List ℕ)) (n : ℕ) (b after : Book) (slice : List ℕ) (c : Call) : Type 0 where
@@ -108,8 +118,17 @@ pub record Next (rows : List (List ℕ)) (root n : ℕ) (b : Book) (slice : List
   pub refused : (r : Refusal) → answer rows slice n c .refusal ≡ some r → RefusalHolds rows n b (bookAfter (cluesOf rows) b (length slice) c) slice c
   pub accepted : answer rows slice n c .refusal ≡ none → Accepted rows root n b (bookAfter (cluesOf rows) b (length slice) c) slice c
 
--- Demand 3: one claim about the whole list of entries and deletions from an accepted new store, under an accepted table.
-abbrev pub Demand3 : Type 0
-Demand3 =
-    (rows : List (List ℕ)) → tableCheck rows ≡ none → (root : ℕ) (w : List ℕ) (n : ℕ) (b : Book) (g : List Label) → Run rows root w n b g →
-    Held rows root w n b g × ((slice : List ℕ) (c : Call) → take (recordSize * n) slice ≡ w → Next rows root n b slice c)
+-- Demand 3: one claim about the whole list of entries and deletions.
+pub record Demand3 : Type 0 where
+  -- it starts at an accepted new store, which opens the book and leaves its record
+  pub opening :
+      (slice : List ℕ) (root p0 p1 : ℕ) → newStore slice root p0 p1 .refusal ≡ none →
+      newStore slice root p0 p1 ≡ record { refusal = none; count = 1; label = []; slice = over (bookWords (rootLine root p0 p1 ∷ [])) slice }
+  -- what holds after the list, under an accepted table
+  pub held :
+      (rows : List (List ℕ)) → tableCheck rows ≡ none → (root : ℕ) (w : List ℕ) (n : ℕ) (b : Book) (g : List Label) → Run rows root w n b g →
+      Held rows root w n b g
+  -- what holds of the call that comes next, in a slice of any length that holds the records
+  pub next :
+      (rows : List (List ℕ)) → tableCheck rows ≡ none → (root : ℕ) (w : List ℕ) (n : ℕ) (b : Book) (g : List Label) → Run rows root w n b g →
+      (slice : List ℕ) (c : Call) → take (recordSize * n) slice ≡ w → Next rows root n b slice c

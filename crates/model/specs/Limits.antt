@@ -37,6 +37,18 @@ labelSize = 16
 abbrev pub recordSize : ℕ
 recordSize = 20
 
+-- word 16 of a record is the name
+abbrev pub nameWord : ℕ
+nameWord = 16
+
+-- word 17 is the next number f
+abbrev pub nextWord : ℕ
+nextWord = 17
+
+-- words 18 and 19 are the payload
+abbrev pub payloadWord : ℕ
+payloadWord = 18
+
 -- the bytes of a twig record
 abbrev pub nodeSize : ℕ
 nodeSize = 4

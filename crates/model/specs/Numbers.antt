@@ -1,8 +1,8 @@
 -- Giving a number to a child: k is the place of its name in the parent's clue, n the clue's length, f the parent's next number.
-use Prim.Native.Nat.{ℕ, _+_, _-_, _*_, _/_, _%_, _≤_}
-use mathlib.Core.Option.{Option, none, some}
-use mathlib.Core.Bool.{cond}
 use mathlib.Core.Path.{_≡_}
+use mathlib.Core.Bool.{cond}
+use mathlib.Core.Option.{Option, none, some}
+use Prim.Native.Nat.{ℕ, _+_, _-_, _*_, _/_, _%_, _≤_}
 use lib.Dec.{ltb, leb}
 
 -- the least number that is at least f and leaves k when divided by n

@@ -1,10 +1,10 @@
 -- The program that prints matches: what it prints for the bytes of its three files, a missing file counting as empty.
+use mathlib.Core.Bool.{cond, _&&_}
+use mathlib.Core.List.{List, [], _∷_, _++_, map}
+use mathlib.Core.Option.{Option}
 use Prim.Native.Nat.{ℕ, zero, suc, _+_, _*_, _/_, _%_}
 use Prim.Native.Char.{code}
 use Prim.Native.String.{String, [] as nil, _∷_ as _then_}
-use mathlib.Core.List.{List, [], _∷_, _++_, map}
-use mathlib.Core.Option.{Option}
-use mathlib.Core.Bool.{cond, _&&_}
 use lib.ListN.{length}
 use lib.Dec.{ltb, leb, eqb}
 use Rattle.model.specs.Basics.{elim?, joined}
@@ -22,10 +22,14 @@ unfoldable pub text : String → List ℕ
 text nil = []
 text (c then s) = code c ∷ text s
 
+-- the byte of the digit 0
+abbrev pub zeroDigit : ℕ
+zeroDigit = 48
+
 -- the decimal digits of a number below 10 ^ fuel
 unfoldable pub digits : ℕ → ℕ → List ℕ
 digits zero n = []
-digits (suc fuel) n = let longer = digits fuel (n / 10) ++ ((48 + n % 10) ∷ []) in cond (ltb n 10) ((48 + n) ∷ []) longer
+digits (suc fuel) n = let longer = digits fuel (n / 10) ++ ((zeroDigit + n % 10) ∷ []) in cond (ltb n 10) ((zeroDigit + n) ∷ []) longer
 
 -- a number in decimal
 unfoldable pub decimal : ℕ → List ℕ

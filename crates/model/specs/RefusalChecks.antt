@@ -1,22 +1,22 @@
 -- Every refusal at its corner, computed: its number and its place, and the order of the checks where two faults meet.
-use Prim.Native.Nat.{ℕ, _-_}
-use mathlib.Core.List.{List, [], _∷_, _++_, map}
-use lib.ListN.{replicate}
 use mathlib.Core.Bool.{cond}
+use mathlib.Core.List.{List, [], _∷_, _++_, map}
+use Prim.Native.Nat.{ℕ, _-_}
+use lib.ListN.{replicate}
 use lib.Dec.{eqb}
-use Rattle.model.specs.Bench.{Check, element, is, shown, benchFile, garageStore}
-use Rattle.model.specs.Labels.{decodeCall, labelWords, labelCheck}
-use Rattle.model.specs.Store.{elementWords, storeWords}
-use Rattle.model.specs.Refusals.{fileLength, nameTooHigh, pairAgain, twigLength, twigParent, twigEdge, nameAsked, twigEnd, noRecord, notInClue, tooDeep, noNumber, noSpace, rootStays, notLabel, emptyClue, shortOutput, storeSize, unsound, badStream, badRoot, badTable}
-use Rattle.model.specs.Limits.{filler, maxName, noParent, recordSize, tableSize, maxFile, maxComponent, maxDepth, anyName, maxElements, labelSize, nodeSize, maxTwig, maxBytes}
 use Rattle.model.specs.Basics.{joined, upTo}
+use Rattle.model.specs.Limits.{filler, maxName, noParent, recordSize, tableSize, maxFile, maxComponent, maxDepth, anyName, maxElements, labelSize, nodeSize, maxTwig, maxBytes, nameWord, nextWord, payloadWord}
+use Rattle.model.specs.Refusals.{fileLength, nameTooHigh, pairAgain, twigLength, twigParent, twigEdge, nameAsked, twigEnd, noRecord, notInClue, tooDeep, noNumber, noSpace, rootStays, notLabel, emptyClue, shortOutput, storeSize, unsound, badStream, badRoot, badTable}
+use Rattle.model.specs.Names.{fileCheck}
+use Rattle.model.specs.Labels.{decodeCall, labelWords, labelCheck}
 use Rattle.model.specs.Twigs.{descendantEdge, twigCheck}
 use Rattle.model.specs.Matches.{labelsWords}
-use Rattle.model.specs.Printing.{printed, text}
-use Rattle.model.specs.Cutting.{cut}
+use Rattle.model.specs.Store.{elementWords, storeWords}
 use Rattle.model.specs.Updates.{delete, enter, newStore}
-use Rattle.model.specs.Names.{fileCheck}
+use Rattle.model.specs.Cutting.{cut}
 use Rattle.model.specs.Matching.{matchCall}
+use Rattle.model.specs.Printing.{printed, text}
+use Rattle.model.specs.Bench.{Check, element, is, shown, benchFile, garageStore}
 
 -- a table with an entry 64
 unfoldable pub tornTable : List (List ℕ)
@@ -53,7 +53,7 @@ oneTwig = noParent ∷ descendantEdge ∷ 1 ∷ 0 ∷ []
 -- the limits are the paper's
 unfoldable pub limits : List ℕ
 limits =
-    maxName ∷ tableSize ∷ filler ∷ maxFile ∷ maxComponent ∷ maxDepth ∷ maxElements ∷ labelSize ∷ recordSize ∷ nodeSize ∷ maxTwig ∷ anyName ∷ noParent ∷
+    maxName ∷ tableSize ∷ filler ∷ maxFile ∷ maxComponent ∷ maxDepth ∷ maxElements ∷ labelSize ∷ recordSize ∷ nameWord ∷ nextWord ∷ payloadWord ∷ nodeSize ∷ maxTwig ∷ anyName ∷ noParent ∷
     maxBytes ∷ []
 
 -- the numbers are 1 to 22

@@ -1,8 +1,8 @@
 -- New store, entry and deletion: what each answers, and every word that it leaves.
-use Prim.Native.Nat.{ℕ, _+_, _-_, _*_}
+use mathlib.Core.Bool.{cond, _&&_, _||_, not}
 use mathlib.Core.List.{List, [], _∷_, _++_, map}
 use mathlib.Core.Option.{Option, none, some}
-use mathlib.Core.Bool.{cond, _&&_, _||_, not}
+use Prim.Native.Nat.{ℕ, _+_, _-_, _*_}
 use lib.ListN.{length, replicate}
 use lib.Dec.{ltb, leb}
 use Rattle.model.specs.Basics.{elim?, keep, over}
@@ -20,7 +20,7 @@ pub record Answer : Type 0 where
   pub label : List ℕ
   pub slice : List ℕ
 
--- new store: 18, 21
+-- a new store is refused by 18, 21, in this order
 unfoldable pub newStoreRefusal : ℕ → ℕ → Option Refusal
 newStoreRefusal len root = first (check (isSlice len) storeSize 0 ∷ rootCheck root ∷ [])
 
@@ -50,7 +50,7 @@ parentCheck cl (some p) name =
 unfoldable pub spaceCheck : ℕ → ℕ → Option Refusal
 spaceCheck len count = check (leb (recordSize * (count + 1)) len && ltb count maxElements) noSpace 0
 
--- entry: 22, 18, 19, 15, 9, 10, 11, 12, 13
+-- an entry is refused by 22, 18, 19, 15, 9, 10, 11, 12, 13, in this order
 unfoldable pub entryRefusal : List (List ℕ) → List ℕ → ℕ → List ℕ → ℕ → Option Refusal
 entryRefusal rows ws count lw name =
     first
@@ -106,7 +106,7 @@ unfoldable pub foundCheck : {A : Type 0} → Option A → Option Refusal
 foundCheck none = refuse noRecord 0
 foundCheck (some a) = none
 
--- deletion: 22, 18, 19, 15, 14, 9
+-- a deletion is refused by 22, 18, 19, 15, 14, 9, in this order
 unfoldable pub deletionRefusal : List (List ℕ) → List ℕ → ℕ → List ℕ → Option Refusal
 deletionRefusal rows ws count lw =
     first
