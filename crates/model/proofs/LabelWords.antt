@@ -66,8 +66,10 @@ isLabel-iff (d ∷ ws) = (
       label-tests (d ∷ ws) .1 (
         h .sixteen,
         h .depth,
-        all-at isComponent 0 (take d ws) .1 (λ i p. subst (λ x. T (leb x maxComponent)) (sym (getD-take d ws i 0 (omega arith))) (le→leb _ maxComponent (h .used i (omega arith)))),
-        all-at (λ x. eqb x 0) 0 (drop d ws) .1 (λ i p. subst (λ x. T (eqb x 0)) (sym (getD-drop d ws i 0 ∙ h .unused (suc (d + i)) (omega arith) (omega (arith, h .sixteen, length-drop d ws)))) tt),
+        all-at isComponent 0 (take d ws) .1 (λ i p.
+            subst (λ x. T (leb x maxComponent)) (sym (getD-take d ws i 0 (omega arith))) (le→leb _ maxComponent (h .used i (omega arith)))),
+        all-at (λ x. eqb x 0) 0 (drop d ws) .1 (λ i p.
+            eqb-alike _ 0 .1 (getD-drop d ws i 0 ∙ h .unused (suc (d + i)) (omega arith) (omega (arith, h .sixteen, length-drop d ws)))),
       ),
 )
   where

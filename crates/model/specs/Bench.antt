@@ -91,8 +91,8 @@ starred =
 -- its document type: 0 bib, 1 book, 2 author, 3 title, 4 chapter, 5 section, 6 text, 7 bold, 8 keyword, 9 emph
 unfoldable pub articleFile : List ℕ
 articleFile =
-    0 ∷ 1 ∷ 1 ∷ 2 ∷ 1 ∷ 3 ∷ 1 ∷ 4 ∷ 4 ∷ 3 ∷ 4 ∷ 5 ∷ 5 ∷ 3 ∷ 5 ∷ 6 ∷ 5 ∷ 5 ∷ 6 ∷ 7 ∷ 6 ∷ 8 ∷ 6 ∷ 9 ∷ 7 ∷ 7 ∷ 7 ∷ 8 ∷ 7 ∷ 9 ∷ 8 ∷ 7 ∷ 8 ∷ 8 ∷ 8 ∷ 9 ∷ 9 ∷
-    7 ∷ 9 ∷ 8 ∷ 9 ∷ 9 ∷ []
+    0 ∷ 1 ∷ 1 ∷ 2 ∷ 1 ∷ 3 ∷ 1 ∷ 4 ∷ 4 ∷ 3 ∷ 4 ∷ 5 ∷ 5 ∷ 3 ∷ 5 ∷ 6 ∷ 5 ∷ 5 ∷ 6 ∷ 7 ∷ 6 ∷ 8 ∷ 6 ∷ 9 ∷
+    7 ∷ 7 ∷ 7 ∷ 8 ∷ 7 ∷ 9 ∷ 8 ∷ 7 ∷ 8 ∷ 8 ∷ 8 ∷ 9 ∷ 9 ∷ 7 ∷ 9 ∷ 8 ∷ 9 ∷ 9 ∷ []
 
 unfoldable pub articleTable : List (List ℕ)
 articleTable = readNames articleFile .table

@@ -53,8 +53,8 @@ oneTwig = noParent ∷ descendantEdge ∷ 1 ∷ 0 ∷ []
 -- the limits are the paper's
 unfoldable pub limits : List ℕ
 limits =
-    maxName ∷ tableSize ∷ filler ∷ maxFile ∷ maxComponent ∷ maxDepth ∷ maxElements ∷ labelSize ∷ recordSize ∷ nameWord ∷ nextWord ∷ payloadWord ∷ nodeSize ∷ maxTwig ∷ anyName ∷ noParent ∷
-    maxBytes ∷ []
+    maxName ∷ tableSize ∷ filler ∷ maxFile ∷ maxComponent ∷ maxDepth ∷ maxElements ∷ labelSize ∷
+    recordSize ∷ nameWord ∷ nextWord ∷ payloadWord ∷ nodeSize ∷ maxTwig ∷ anyName ∷ noParent ∷ maxBytes ∷ []
 
 -- the numbers are 1 to 22
 unfoldable pub numbers : List ℕ
