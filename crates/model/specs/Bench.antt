@@ -7,7 +7,7 @@ use Rattle.model.specs.Basics.{elim?, last}
 use Rattle.model.specs.Refusals.{Refusal, Reply, value, refused}
 use Rattle.model.specs.Names.{led, cluesOf, readNames}
 use Rattle.model.specs.Numbers.{number, articleNumber}
-use Rattle.model.specs.Labels.{Label, path, labelOf, labelWords, namesIn, decodeCall, kinshipCall}
+use Rattle.model.specs.Labels.{Label, labelOf, labelWords, decodeCall, kinshipCall}
 use Rattle.model.specs.Store.{Element, storeWords}
 use Rattle.model.specs.Updates.{Answer, newStore}
 use Rattle.model.specs.Printing.{text, joinedBy, labelText}
@@ -76,8 +76,8 @@ starred =
     ∷ is (numbersGiven (under [] 1 ∷ map (under (0 ∷ [])) (2 ∷ 5 ∷ 2 ∷ 5 ∷ 5 ∷ []))) (0 ∷ 0 ∷ 1 ∷ 2 ∷ 3 ∷ 5 ∷ [])
     -- under a test: axle, curve, axle get 1, 2, 4
     ∷ is (numbersGiven (under [] 1 ∷ under (0 ∷ []) 2 ∷ map (under (0 ∷ 0 ∷ [])) (3 ∷ 4 ∷ 3 ∷ []))) (0 ∷ 0 ∷ 1 ∷ 2 ∷ 4 ∷ [])
-    -- 1.2.4.0 decodes to 0 1 2 3 4
-    ∷ is (decodeCall benchTable 0 (labelWords (1 ∷ 2 ∷ 4 ∷ 0 ∷ [])) .names) (namesIn (path (0 ∷ 1 ∷ 2 ∷ 3 ∷ 4 ∷ [])))
+    -- 1.2.4.0 decodes to 0 1 2 3 4, the other eleven of the sixteen places 0
+    ∷ is (decodeCall benchTable 0 (labelWords (1 ∷ 2 ∷ 4 ∷ 0 ∷ [])) .names) (0 ∷ 1 ∷ 2 ∷ 3 ∷ 4 ∷ replicate 11 0)
     -- 0.0.0.0 is refused, 16 at 4: a note has no children
     ∷ is (shown (decodeCall benchTable 0 (labelWords (0 ∷ 0 ∷ 0 ∷ 0 ∷ [])) .refusal)) (16 ∷ 4 ∷ [])
     -- kinship of the empty label to 1.0 is 2
@@ -113,7 +113,7 @@ articleChecks =
     -- section 3.1: under a book 8 leads to a chapter
     ∷ is (elim? (led (cluesOf articleTable 1) 8) [] (λ c. c ∷ [])) (4 ∷ [])
     -- example 3.2: 0.5.1.1 is bib, book, chapter, section, text
-    ∷ is (decodeCall articleTable 0 (labelWords (0 ∷ 5 ∷ 1 ∷ 1 ∷ [])) .names) (namesIn (path (0 ∷ 1 ∷ 4 ∷ 5 ∷ 6 ∷ [])))
+    ∷ is (decodeCall articleTable 0 (labelWords (0 ∷ 5 ∷ 1 ∷ 1 ∷ [])) .names) (0 ∷ 1 ∷ 4 ∷ 5 ∷ 6 ∷ replicate 11 0)
     -- the corner: the article's formula gives the second book the first one's number again
     ∷ is (articleNumber 1 0 (some 0) ∷ number 1 0 (0 + 1) ∷ []) (0 ∷ 1 ∷ [])
     ∷ []
