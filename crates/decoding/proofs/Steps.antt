@@ -1,0 +1,92 @@
+-- The walk along a label's components: the names so far are what the components so far decode to.
+use Prim.Native.Nat.{ℕ, suc, _+_, _-_, _≤_, _<_}
+use mathlib.Core.Path.{_≡_, refl, sym, ap, _∙_}
+use mathlib.Core.List.{List, [], _∷_, _++_, append-nil, append-assoc}
+use mathlib.Core.Option.{Option, none, some}
+use native.Mathlib.Numerals.{add-one}
+use native.Mathlib.Omega.{arith}
+use lib.ListN.{length, getD, take, drop, set, replicate, take-append-drop, length-append}
+use lib.Seq.{take-all, take-suc, set-at}
+use Rattle.model.specs.Basics.{elim?, last}
+use Rattle.model.specs.Limits.{labelSize}
+use Rattle.model.specs.Refusals.{emptyClue}
+use Rattle.model.specs.Names.{Clues, led}
+use Rattle.model.specs.Labels.{Label, path, stuck, decode, pathCheck, namesIn}
+use Rattle.model.proofs.LabelOrder.{last-snoc}
+use Rattle.model.proofs.Decode.{further, decode-snoc, decode-child}
+use Rattle.names.specs.Answers.{childOf}
+use Rattle.names.specs.declared.Child.{Child}
+use Rattle.names.specs.declared.Child.the-variants as child
+use Rattle.refusals.specs.declared.Verdict.the-variants as verdict
+use Rattle.decoding.specs.declared.Decoding.{Decoding}
+use Rattle.decoding.specs.Answers.{refusedBy, decodedBy}
+
+-- what the lookup of a child says of the definition
+child-name : (o : Option ℕ) {c : ℕ} {r : Child} → r ≡ childOf o → r ≡ child.Name c → some c ≡ o
+child-name none p q = absurd (let z : _≡_ {A = ℕ} 0 1 = cc in omega arith)
+child-name (some d) p q = cc
+
+-- and that it leads nowhere
+child-nowhere : (o : Option ℕ) {r : Child} → r ≡ childOf o → r ≡ child.Nowhere → none ≡ o
+child-nowhere none p q = refl
+child-nowhere (some d) p q = absurd (let z : _≡_ {A = ℕ} 0 1 = cc in omega arith)
+
+-- a label that goes on from one that is stuck is stuck there too
+stuck-more : (cl : Clues) (p : ℕ) (l m : Label) (i : ℕ) → decode cl p l ≡ stuck i → decode cl p (l ++ m) ≡ stuck i
+stuck-more cl p l [] i e = ap (decode cl p) (append-nil l) ∙ e
+stuck-more cl p l (x ∷ m) i e =
+    ap (decode cl p) (sym (append-assoc l (x ∷ []) m)) ∙
+    stuck-more cl p (l ++ (x ∷ [])) m i (decode-snoc cl p l x ∙ ap (λ d. further cl d x) e ∙ unfold further in refl)
+
+-- after i components: the name reached is p, and the names so far fill the first i + 1 places
+pub record Walked (cl : Clues) (root : ℕ) (l : Label) (p i : ℕ) (names : List ℕ) : Type 0 where
+  pub so-far : List ℕ
+  pub decoded : decode cl root (take i l) ≡ path so-far
+  pub many : length so-far ≡ i + 1
+  pub reached : last so-far ≡ p
+  pub held : names ≡ so-far ++ replicate (15 - i) 0
+
+-- at the root
+pub walk-from : (cl : Clues) (root : ℕ) (l : Label) → Walked cl root l root 0 (root ∷ replicate 15 0)
+unfolding decode last
+walk-from cl root l = record { so-far = root ∷ []; decoded = refl; many = refl; reached = refl; held = refl }
+
+module _ (cl : Clues) (root : ℕ) (l : Label) (p i : ℕ) (names : List ℕ) (w : Walked cl root l p i names) where
+  -- at the end the names are those of the path
+  pub walk-end : i ≤ length l → length l ≤ i → length l ≤ 15 → record { verdict = verdict.Passed; names = names } ≡ decodedBy (decode cl root l)
+  unfolding pathCheck namesIn
+  walk-end low high short =
+      let whole : take i l ≡ l = take-all i l high in
+      let e : decode cl root l ≡ path (w .so-far) = ap (decode cl root) (sym whole) ∙ w .decoded in
+      let left : labelSize - length (w .so-far) ≡ 15 - i = omega (arith, w .many) in
+      rw (e, left) (ap {B = Decoding} (λ ns. record { verdict = verdict.Passed; names = ns }) (w .held))
+
+  module _ (h : i < length l) where
+    -- one component more
+    next : take (i + 1) l ≡ take i l ++ (getD l i 0 ∷ [])
+    next = ap (λ n. take n l) (add-one i) ∙ take-suc l i 0 h
+
+    -- a component that leads nowhere is refused, 16 at the component
+    pub walk-stuck : {x : Child} {r : Decoding} → x ≡ childOf (led (cl p) (getD l i 0)) → x ≡ child.Nowhere → r ≡ refusedBy emptyClue (i + 1) → r ≡ decodedBy (decode cl root l)
+    unfolding pathCheck namesIn further elim?
+    walk-stuck e nowhere f =
+        let now : decode cl root (take (i + 1) l) ≡ stuck (i + 1) =
+        ap (decode cl root) next ∙ decode-snoc cl root (take i l) (getD l i 0) ∙ rw (w .decoded, w .reached, ← child-nowhere (led (cl p) (getD l i 0)) e nowhere, w .many) in
+        let all : decode cl root l ≡ stuck (i + 1) =
+        ap (decode cl root) (sym (take-append-drop (i + 1) l)) ∙ stuck-more cl root (take (i + 1) l) (drop (i + 1) l) (i + 1) now in
+        f ∙ sym (ap decodedBy all)
+
+    -- a component that leads to a name puts it into the next place
+    pub walk-on : {x : Child} {c : ℕ} → x ≡ childOf (led (cl p) (getD l i 0)) → x ≡ child.Name c → length l ≤ 15 → Walked cl root l c (i + 1) (set names (i + 1) c)
+    walk-on {x} {c} e named short =
+        let leads : led (cl (last (w .so-far))) (getD l i 0) ≡ some c = ap (λ n. led (cl n) (getD l i 0)) (w .reached) ∙ sym (child-name _ e named) in
+        let left : 15 - i ≡ suc (15 - (i + 1)) = omega arith in
+        record {
+          so-far = w .so-far ++ (c ∷ []);
+          decoded = ap (decode cl root) next ∙ decode-child cl root (take i l) (w .so-far) (getD l i 0) c (w .decoded) leads;
+          many = length-append (w .so-far) (c ∷ []) ∙ ap (λ n. n + 1) (w .many);
+          reached = last-snoc (w .so-far) c;
+          held =
+              ap (λ (ns : List ℕ). set ns (i + 1) c) (w .held ∙ ap (λ n. w .so-far ++ replicate n 0) left) ∙
+              set-at (w .so-far) 0 (replicate (15 - (i + 1)) 0) c (i + 1) (w .many) ∙ sym (append-assoc (w .so-far) (c ∷ []) (replicate (15 - (i + 1)) 0));
+        }

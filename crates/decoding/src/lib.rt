@@ -1,0 +1,72 @@
+// Decoding: the names from the root that a label leads to.
+use labels::components;
+use labels::is_label;
+use names::Child;
+use names::MAX_NAME;
+use names::Table;
+use names::child_of;
+use names::table_check;
+use refusals::Refusal;
+use refusals::Verdict;
+use refusals::refuse;
+ghost use mathlib.Core.Path.{_≡_};
+ghost use Prim.Native.Nat.{_≤_};
+ghost use lib.ListN.{length};
+ghost use Rattle.model.specs.Names.{cluesOf};
+ghost use Rattle.model.specs.Labels as model;
+ghost use Rattle.decoding.specs.Answers.{refusedBy, decodedBy, decodingOf};
+
+// What decoding answers: the depth + 1 names from the root, the rest of sixteen places 0.
+pub struct Decoding {
+    pub verdict: Verdict,
+    pub names: [u8; 16],
+}
+
+// A refusal gives no names, all zeros.
+fn refused(number: u8, place: usize) -> Decoding
+    ensures { λ r. ⌜ r ≡ refusedBy number place ⌝ }
+{
+    Decoding {
+        verdict: refuse(number, place),
+        names: [0u8; 16],
+    }
+}
+
+// The names along components, from a root name on.
+fn walk(table: &Table, root: u8, parts: &[u16]) -> Decoding
+    requires { ⌜ length (now parts) ≤ 15 ⌝ }
+    ensures { λ r. ⌜ r ≡ decodedBy (model.decode (cluesOf (now (table .entry))) root (now (parts .entry))) ⌝ }
+{
+    let mut names = [0u8; 16];
+    names[0] = root;
+    let mut p = root;
+    let mut i: usize = 0;
+    while i < parts.len() {
+        let Child::Name(c) = child_of(table, p, parts[i]) else {
+            return refused(Refusal::EMPTY_CLUE, i + 1);
+        };
+        p = c;
+        i += 1;
+        names[i] = p;
+    }
+    Decoding {
+        verdict: Verdict::Passed,
+        names,
+    }
+}
+
+// Decoding: 22, 21, 15, 16.
+pub fn decode(table: Table, root: u8, label: &[u16]) -> Decoding
+    ensures { λ r. ⌜ r ≡ decodingOf (model.decodeCall table root (now (label .entry))) ⌝ }
+{
+    let Verdict::Passed = table_check(&table) else {
+        return refused(Refusal::BAD_TABLE, 0);
+    };
+    if MAX_NAME < root {
+        return refused(Refusal::BAD_ROOT, 0);
+    }
+    if !is_label(label) {
+        return refused(Refusal::NOT_LABEL, 0);
+    }
+    walk(&table, root, components(label))
+}

@@ -1,0 +1,20 @@
+-- `labels::follows` meets its contract: refused by 15 unless both are labels, else the order of their components, the second first.
+use borrow.Author.Needs.{needs}
+use Rattle.labels.proofs.Steps.{known-label, not-first, not-second, follows-refuses, follows-answers}
+use Rattle.labels.proofs.follows.Statement.{statement}
+use Rattle.labels.proofs.follows.Tie as tie
+
+pub follows-spec : {M : Type 1} → statement M
+follows-spec =
+    tie.close
+    (tie.spec
+    (λ c κs. search needs)
+    (λ c κs. search needs)
+    (λ c. search (follows-refuses, not-first, needs))
+    (λ c κs. search needs)
+    (λ c κs. search needs)
+    (λ c. search (follows-refuses, not-second, needs))
+    (λ c κs. search (known-label, needs))
+    (λ c κs. search (known-label, needs))
+    (λ c κs. search needs)
+    (λ c. search (follows-answers, needs)))

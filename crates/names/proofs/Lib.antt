@@ -1,0 +1,3 @@
+-- The lookups of a row, then the check of a table.
+pub mod Rows
+pub mod Marks

@@ -1,0 +1,24 @@
+-- What the answers of the code tell, by the definitions of `model`.
+use Prim.Native.Nat.{ℕ}
+use mathlib.Core.Option.{Option, none, some}
+use mathlib.Core.Bool.{Bool}
+use lib.Dec.{eqb}
+use Rattle.model.specs.Limits.{filler}
+use Rattle.names.specs.declared.Place.{Place}
+use Rattle.names.specs.declared.Place.the-variants as place
+use Rattle.names.specs.declared.Child.{Child}
+use Rattle.names.specs.declared.Child.the-variants as child
+
+-- the place of a name in a clue, or that it is absent
+abbrev pub placeOf : Option ℕ → Place
+placeOf none = place.Absent
+placeOf (some k) = place.At k
+
+-- the name that a component leads to, or that it leads nowhere
+abbrev pub childOf : Option ℕ → Child
+childOf none = child.Nowhere
+childOf (some c) = child.Name c
+
+-- a number is the filling
+abbrev pub isFiller : ℕ → Bool
+isFiller x = eqb x filler
