@@ -86,24 +86,38 @@ fn file(text: &[u8], bytes: &[u8]) {
     say(b"\n");
 }
 
-pub fn files() {
+// Lengths: 1 or not.
+fn lengths() {
     file(b"empty file: ", &[]);
     file(b"two children of 0: ", &[0, 1, 0, 2]);
     file(b"one byte: ", &[0]);
-    file(b"8,191 bytes: ", &[0; 8191]);
     file(b"8,192 bytes, pair 1 as pair 0: ", &[0; 8192]);
     file(b"8,194 bytes: ", &[0; 8194]);
     file(b"20,000 bytes: ", &[255; 20000]);
+}
+
+// Names above 63: 2 at the pair.
+fn high_names() {
     file(b"parent 64, first pair: ", &[64, 1, 1, 2, 2, 3]);
     file(b"child 64, first pair: ", &[0, 64, 1, 2, 2, 3]);
     file(b"parent 255, middle pair: ", &[0, 1, 255, 2, 2, 3]);
     file(b"child 64, middle pair: ", &[0, 1, 1, 64, 2, 3]);
     file(b"parent 64, last pair: ", &[0, 1, 1, 2, 64, 3]);
     file(b"child 64, last pair: ", &[0, 1, 1, 2, 2, 64]);
+}
+
+// Pairs that stood before: 3 at the pair.
+fn pairs_again() {
     file(b"second pair as the first: ", &[0, 1, 0, 1, 1, 2, 2, 3]);
     file(b"third pair as the first: ", &[0, 1, 1, 2, 0, 1, 2, 3]);
     file(b"last pair as the first: ", &[0, 1, 1, 2, 2, 3, 0, 1]);
     file(b"64, and then a pair again: ", &[0, 1, 64, 2, 0, 1]);
+}
+
+pub fn files() {
+    lengths();
+    high_names();
+    pairs_again();
 }
 
 // The check of a table.
@@ -124,7 +138,8 @@ fn with(row: usize, place: usize, x: u8) -> Table {
     t
 }
 
-pub fn tables() {
+// Entries 64 to 254, and names after a 255.
+fn entries() {
     table(b"the bench's table: ", bench_table());
     table(b"64 in the first row: ", with(0, 0, 64));
     table(b"254 in a middle row: ", with(31, 0, 254));
@@ -135,6 +150,10 @@ pub fn tables() {
         b"a name after a 255, last row, last place: ",
         with(63, 63, 7),
     );
+}
+
+// Names that stand twice in a row.
+fn names_twice() {
     table(b"a name twice, first row: ", with(0, 1, 1));
     table(b"a name twice, row of a test: ", with(2, 3, 5));
     let mut full = bench_table();
@@ -142,4 +161,9 @@ pub fn tables() {
     table(b"a last row of all names: ", full);
     full[63][63] = 0;
     table(b"0 for its last name: ", full);
+}
+
+pub fn tables() {
+    entries();
+    names_twice();
 }

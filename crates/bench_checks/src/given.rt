@@ -63,7 +63,8 @@ fn after(children: usize, n: usize, k: usize) -> u16 {
     next
 }
 
-pub fn numbers() {
+// Under the bench's own names.
+fn bench_numbers() {
     let table = bench_table();
     say(b"three vehicles under the root:");
     let f = below(&table, GARAGE, VEHICLE, 0);
@@ -81,6 +82,11 @@ pub fn numbers() {
     below(&table, TEST, AXLE, f);
     say(b"\nunder a vehicle, axle:");
     below(&table, VEHICLE, AXLE, 0);
+}
+
+// The source document's example and its corner, and the largest numbers.
+pub fn numbers() {
+    bench_numbers();
     say(b"\nn 3, k 2, f 5:");
     give(3, 2, 5);
     say(b"\nn 1, k 0, f 1:");

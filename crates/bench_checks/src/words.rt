@@ -40,7 +40,8 @@ fn label(text: &[u8], words: &[u16]) {
     say(b"\n");
 }
 
-pub fn labels() {
+// Lengths and depths.
+fn sizes() {
     let root = Label::empty();
     label(b"the empty label: ", &root.words);
     label(b"depth 15: ", &DEEPEST);
@@ -49,6 +50,10 @@ pub fn labels() {
     label(b"17 words: ", &[0; 17]);
     label(b"20,000 words: ", &[0; 20000]);
     label(b"depth 16: ", &TOO_DEEP);
+}
+
+// Used components up to 65,534.
+fn used() {
     label(
         b"65,534, used: ",
         &[1, 65534, 0, 0, 0, 0, 0, 0, 0, 0, 0, 0, 0, 0, 0, 0],
@@ -69,6 +74,10 @@ pub fn labels() {
         b"65,535, last of fifteen: ",
         &[15, 0, 0, 0, 0, 0, 0, 0, 0, 0, 0, 0, 0, 0, 0, 65535],
     );
+}
+
+// Unused components 0.
+fn unused() {
     label(
         b"1 in the first unused word: ",
         &[0, 1, 0, 0, 0, 0, 0, 0, 0, 0, 0, 0, 0, 0, 0, 0],
@@ -81,6 +90,12 @@ pub fn labels() {
         b"1 in the last unused word: ",
         &[0, 0, 0, 0, 0, 0, 0, 0, 0, 0, 0, 0, 0, 0, 0, 1],
     );
+}
+
+pub fn labels() {
+    sizes();
+    used();
+    unused();
 }
 
 // Decoding of words under a table and a root name.
@@ -100,7 +115,8 @@ fn decoded(text: &[u8], table: Table, root: u8, words: &[u16]) {
     say(b"\n");
 }
 
-pub fn decodings() {
+// Paths, and components below a name with an empty clue.
+fn paths() {
     let bench = bench_table();
     let root = Label::empty();
     decoded(b"1.2.4.0: ", bench, 0, &L1240);
@@ -108,15 +124,30 @@ pub fn decodings() {
     decoded(b"0.0.0.0: ", bench, 0, &L0000);
     decoded(b"1 under a note: ", bench, 5, &L1);
     decoded(b"0.1.0.0.0: ", bench, 0, &L01000);
-    let mut nested = bench;
+}
+
+// A name below itself, down to the deepest level.
+fn deep_path() {
+    let mut nested = bench_table();
     read_names(&[0, 0, 0, 1], &mut nested);
     decoded(b"fifteen deep: ", nested, 0, &DEEPEST);
+}
+
+// The order of the checks: table, root name, label.
+fn checks() {
+    let bench = bench_table();
     decoded(b"depth 16: ", bench, 0, &TOO_DEEP);
     decoded(b"root name 64: ", bench, 64, &L1);
     decoded(b"root name 255, depth 16: ", bench, 255, &TOO_DEEP);
     let mut bad = bench;
     bad[0][0] = 64;
     decoded(b"bad table, root name 64, depth 16: ", bad, 64, &TOO_DEEP);
+}
+
+pub fn decodings() {
+    paths();
+    deep_path();
+    checks();
 }
 
 // Kinship of a first label to a second.
@@ -160,7 +191,8 @@ fn answer(yes: bool) {
     }
 }
 
-pub fn order() {
+// Follows, with its refusals.
+fn followings() {
     following(b"2 follows 1.0: ", &L2, &L10);
     following(b"1.0 follows 2: ", &L10, &L2);
     following(b"1.0 follows 1: ", &L10, &L1);
@@ -168,6 +200,10 @@ pub fn order() {
     following(b"1.0 follows 1.0: ", &L10, &L10);
     following(b"depth 16 follows 1: ", &TOO_DEEP, &L1);
     following(b"1 follows depth 16: ", &L1, &TOO_DEEP);
+}
+
+pub fn order() {
+    followings();
     say(b"components 1 0 before 2: ");
     answer(before(&[1, 0], &[2]));
     say(b"\ncomponents 1 before 1 0: ");

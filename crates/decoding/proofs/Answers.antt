@@ -1,19 +1,19 @@
 -- What decoding answers, for each way out of its code.
 use Prim.Native.Nat.{ℕ, _≤_, _<_}
-use mathlib.Core.Path.{_≡_, refl, sym, ap, _∙_}
+use mathlib.Core.Path.{_≡_, refl, ap, _∙_}
 use mathlib.Core.Bool.{Bool, true, false, not}
 use mathlib.Core.List.{List, [], _∷_}
 use mathlib.Core.Option.{none, some}
 use native.Mathlib.Omega.{arith}
 use lib.ListN.{replicate}
 use lib.Dec.{leb→le, le→leb}
-use borrow.Author.Tests.{not-true, not-false}
 use Rattle.model.specs.Basics.{elim?, all}
-use Rattle.model.specs.Limits.{maxName}
+use Rattle.model.specs.Limits.{maxName, labelSize}
 use Rattle.model.specs.Refusals.{refuse, check, first, badTable, badRoot, notLabel}
 use Rattle.model.specs.Names.{cluesOf, goodRow, tableCheck, isName, rootCheck}
 use Rattle.model.specs.Labels as model
 use Rattle.model.proofs.Refusals.{check-passed, check-failed, first-here, first-rest, first-last}
+use Rattle.labels.proofs.Steps.{known-label, unknown-label}
 use Rattle.refusals.specs.declared.Refusal.{Refusal}
 use Rattle.refusals.specs.declared.Verdict.{Verdict}
 use Rattle.refusals.specs.declared.Verdict.the-variants as verdict
@@ -22,8 +22,9 @@ use Rattle.decoding.specs.declared.Decoding.{Decoding}
 use Rattle.decoding.specs.Answers.{decodingOf, refusedBy, decodedBy}
 
 -- a refusal with no names
-pub no-names : {v : Verdict} {n place : ℕ} → v ≡ verdictOf (refuse n place) → _≡_ {A = Decoding} (record { verdict = v; names = replicate 16 0 }) (refusedBy n place)
-no-names e = ap {B = Decoding} (λ v. record { verdict = v; names = replicate 16 0 }) e
+pub no-names : {v : Verdict} {n place : ℕ} → v ≡ verdictOf (refuse n place) →
+    _≡_ {A = Decoding} (record { verdict = v; names = replicate labelSize 0 }) (refusedBy n place)
+no-names e = ap {B = Decoding} (λ v. record { verdict = v; names = replicate labelSize 0 }) e
 
 -- a table that passed
 table-passed : (b : Bool) {v : Verdict} → v ≡ verdictOf (check b badTable 0) → v ≡ verdict.Passed → check b badTable 0 ≡ none
@@ -32,7 +33,8 @@ table-passed true e f = refl
 table-passed false e f = absurd (let z : _≡_ {A = ℕ} 0 1 = cc in omega arith)
 
 -- a table that did not
-table-failed : (b : Bool) {v : Verdict} {x : Refusal} → v ≡ verdictOf (check b badTable 0) → v ≡ verdict.Refused x → check b badTable 0 ≡ refuse badTable 0
+table-failed : (b : Bool) {v : Verdict} {x : Refusal} → v ≡ verdictOf (check b badTable 0) → v ≡ verdict.Refused x →
+    check b badTable 0 ≡ refuse badTable 0
 unfolding check
 table-failed true e f = absurd (let z : _≡_ {A = ℕ} 0 1 = cc in omega arith)
 table-failed false e f = refl
@@ -49,7 +51,8 @@ module _ (rows : List (List ℕ)) (root : ℕ) (ws : List ℕ) where
   unfolding model.decodeCall model.pathCheck model.namesIn elim?
   path-decides e = rw e (by-path (model.decode (cluesOf rows) root (model.labelOf ws)))
     where
-      by-path : (d : model.Decoded) → decodedBy d ≡ decodingOf (elim? (model.pathCheck d) (record { refusal = none; names = model.namesIn d }) (λ r. record { refusal = some r; names = replicate 16 0 }))
+      by-path : (d : model.Decoded) → decodedBy d ≡
+          decodingOf (elim? (model.pathCheck d) (record { refusal = none; names = model.namesIn d }) (λ r. record { refusal = some r; names = replicate labelSize 0 }))
       by-path (model.path ns) = refl
       by-path (model.stuck i) = refl
 
@@ -77,7 +80,7 @@ module _ (rows : List (List ℕ)) (root : ℕ) (ws : List ℕ) where
         -- words that are no label
         pub no-label : {r : Decoding} → not b ≡ true → r ≡ refusedBy notLabel 0 → r ≡ decodingOf (model.decodeCall rows root ws)
         unfolding model.labelCheck check
-        no-label f e = e ∙ refused-by notLabel 0 (to-label ∙ first-here _ _ _ (ap (λ b. check b notLabel 0) (sym is ∙ not-true b f)))
+        no-label f e = e ∙ refused-by notLabel 0 (to-label ∙ first-here _ _ _ (ap (λ b. check b notLabel 0) (unknown-label ws is f)))
 
         -- a label is decoded
         pub label-decoded : {l : List ℕ} {r : Decoding} → not b ≡ false → l ≡ model.labelOf ws → r ≡ decodedBy (model.decode (cluesOf rows) root l) →
@@ -85,4 +88,4 @@ module _ (rows : List (List ℕ)) (root : ℕ) (ws : List ℕ) where
         unfolding model.labelCheck check
         label-decoded f p e =
             e ∙ ap (λ l. decodedBy (model.decode (cluesOf rows) root l)) p ∙
-            path-decides (to-label ∙ first-rest _ _ (ap (λ b. check b notLabel 0) (sym is ∙ not-false b f)) ∙ first-last _)
+            path-decides (to-label ∙ first-rest _ _ (ap (λ b. check b notLabel 0) (known-label ws is f)) ∙ first-last _)

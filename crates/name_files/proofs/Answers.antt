@@ -44,7 +44,8 @@ module _ (file : List ℕ) where
   -- a length that is odd
   pub read-odd : {r : Verdict} → (length file % 2 ≡ 0 → ⊥) → r ≡ verdictOf (refuse fileLength 0) → read r fillers ≡ readOf (readNames file)
   unfolding fileCheck
-  read-odd n e = refused-by fileLength 0 e (first-here _ _ _ (check-failed _ fileLength 0 (λ t. n (eqb-alike (length file % 2) 0 .0 (and-iff (eqb (length file % 2) 0) _ .0 t .0)))))
+  read-odd n e = refused-by fileLength 0 e (first-here _ _ _
+      (check-failed _ fileLength 0 (λ t. n (eqb-alike (length file % 2) 0 .0 (and-iff (eqb (length file % 2) 0) _ .0 t .0)))))
 
   -- or over 8,192
   pub read-long : {r : Verdict} → maxFile < length file → r ≡ verdictOf (refuse fileLength 0) → read r fillers ≡ readOf (readNames file)

@@ -203,7 +203,8 @@ module _ (file : List ℕ) {t : List (List ℕ)} {i : ℕ} (r : Reading file t i
     read-again k e =
         let (low, at) = placed-at _ _ k e in
         let stood = stood-iff parent-name .1 (member-at 0 _ _ .1 (k, low, at)) in
-        check-on ∙ first-here _ _ _ (first-next _ _ (check-passed _ nameTooHigh i names) ∙ check-failed _ pairAgain i (λ t. T-not (stands (pair .child) _) t stood))
+        check-on ∙ first-here _ _ _ (first-next _ _ (check-passed _ nameTooHigh i names) ∙
+        check-failed _ pairAgain i (λ t. T-not (stands (pair .child) _) t stood))
 
     module _ (absent : placeIn (pair .child) (cluesOf t (pair .parent)) ≡ none) where
       -- a new pair passes
@@ -255,7 +256,8 @@ module _ (file : List ℕ) {t : List (List ℕ)} {i : ℕ} (r : Reading file t i
             }
 
 -- a file that was read to its end
-pub read-end : (file : List ℕ) {t : List (List ℕ)} {i : ℕ} → Reading file t i → length file / 2 ≤ i → (pairsCheck 0 [] (pairs file) ≡ none) × (t ≡ tableOf (pairs file))
+pub read-end : (file : List ℕ) {t : List (List ℕ)} {i : ℕ} → Reading file t i → length file / 2 ≤ i →
+    (pairsCheck 0 [] (pairs file) ≡ none) × (t ≡ tableOf (pairs file))
 read-end file {t} {i} r h =
     let all : take i (pairs file) ≡ pairs file = take-all i (pairs file) (omega (arith, length-pairs file)) in
     (ap (pairsCheck 0 []) (sym all) ∙ r .passed, r .built ∙ ap tableOf all)
