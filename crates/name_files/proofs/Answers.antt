@@ -23,16 +23,16 @@ use Rattle.name_files.specs.Answers.{read, readOf}
 use Rattle.name_files.proofs.Reading.{Reading, read-end, read-high-parent, read-high-child, read-again, read-room, read-on}
 
 -- the table that a refusal leaves
-abbrev pub fillers : List (List ℕ)
+abbrev fillers : List (List ℕ)
 fillers = replicate 64 (replicate 64 255)
 
 -- what the lookup of a place says of the definition
-pub place-at : (o : Option ℕ) {k : ℕ} {r : Place} → r ≡ placeOf o → r ≡ place.At k → o ≡ some k
+place-at : (o : Option ℕ) {k : ℕ} {r : Place} → r ≡ placeOf o → r ≡ place.At k → o ≡ some k
 place-at none p q = absurd (let z : _≡_ {A = ℕ} 0 1 = cc in omega arith)
 place-at (some d) p q = cc
 
 -- and that a name is absent
-pub place-absent : (o : Option ℕ) {r : Place} → r ≡ placeOf o → r ≡ place.Absent → o ≡ none
+place-absent : (o : Option ℕ) {r : Place} → r ≡ placeOf o → r ≡ place.Absent → o ≡ none
 place-absent none p q = refl
 place-absent (some d) p q = absurd (let z : _≡_ {A = ℕ} 0 1 = cc in omega arith)
 
