@@ -6,7 +6,7 @@ use Prim.Native.Nat.{ℕ, _+_, _*_, _/_, _%_, _≤_, _<_}
 use native.Mathlib.Omega.{arith}
 use lib.ListN.{length, getD, set, replicate}
 use lib.Dec.{leb, eqb, leb→le, le→leb}
-use Rattle.model.specs.Limits.{maxName, tableSize, maxFile}
+use Rattle.model.specs.Limits.{maxName, tableSize, filler, maxFile}
 use Rattle.model.specs.Refusals.{refuse, fileLength, nameTooHigh, pairAgain}
 use Rattle.model.specs.Names.{pairs, pairsCheck, fileCheck, emptyTable, readNames, cluesOf, placeIn}
 use Rattle.model.proofs.Tests.{and-iff, eqb-alike}
@@ -19,12 +19,13 @@ use Rattle.refusals.specs.Answers.{verdictOf}
 use Rattle.names.specs.declared.Place.{Place}
 use Rattle.names.specs.declared.Place.the-variants as place
 use Rattle.names.specs.Answers.{placeOf}
-use Rattle.name_files.specs.Answers.{read, readOf}
+use Rattle.name_files.specs.Answers.{Read, read, readOf, refusedBy}
 use Rattle.name_files.proofs.Reading.{Reading, read-end, read-high-parent, read-high-child, read-again, read-room, read-on}
 
--- the table that a refusal leaves
-abbrev fillers : List (List ℕ)
-fillers = replicate 64 (replicate 64 255)
+-- a refusal written into a table
+pub empty-left : {v : Verdict} {n place : ℕ} → v ≡ verdictOf (refuse n place) → read v (replicate tableSize (replicate tableSize filler)) ≡ refusedBy n place
+unfolding emptyTable
+empty-left e = ap {B = Read} (λ v. read v (replicate tableSize (replicate tableSize filler))) e
 
 -- what the lookup of a place says of the definition
 place-at : (o : Option ℕ) {k : ℕ} {r : Place} → r ≡ placeOf o → r ≡ place.At k → o ≡ some k
@@ -38,17 +39,17 @@ place-absent (some d) p q = absurd (let z : _≡_ {A = ℕ} 0 1 = cc in omega ar
 
 module _ (file : List ℕ) where
   -- a refused file
-  refused-by : {r : Verdict} (n place : ℕ) → r ≡ verdictOf (refuse n place) → fileCheck file ≡ refuse n place → read r fillers ≡ readOf (readNames file)
-  refused-by n place e f = rw (refused-read file _ f, e) (unfold emptyTable in refl)
+  refused-by : {a : Read} (n place : ℕ) → a ≡ refusedBy n place → fileCheck file ≡ refuse n place → a ≡ readOf (readNames file)
+  refused-by n place e f = e ∙ rw (refused-read file _ f)
 
   -- a length that is odd
-  pub read-odd : {r : Verdict} → (length file % 2 ≡ 0 → ⊥) → r ≡ verdictOf (refuse fileLength 0) → read r fillers ≡ readOf (readNames file)
+  pub read-odd : {a : Read} → (length file % 2 ≡ 0 → ⊥) → a ≡ refusedBy fileLength 0 → a ≡ readOf (readNames file)
   unfolding fileCheck
   read-odd n e = refused-by fileLength 0 e (first-here _ _ _
       (check-failed _ fileLength 0 (λ t. n (eqb-alike (length file % 2) 0 .0 (and-iff (eqb (length file % 2) 0) _ .0 t .0)))))
 
   -- or over 8,192
-  pub read-long : {r : Verdict} → maxFile < length file → r ≡ verdictOf (refuse fileLength 0) → read r fillers ≡ readOf (readNames file)
+  pub read-long : {a : Read} → maxFile < length file → a ≡ refusedBy fileLength 0 → a ≡ readOf (readNames file)
   unfolding fileCheck
   read-long n e = refused-by fileLength 0 e (first-here _ _ _
       (check-failed _ fileLength 0 (λ t. omega (arith, leb→le (length file) maxFile (and-iff (eqb (length file % 2) 0) (leb (length file) maxFile) .0 t .1)))))
@@ -67,17 +68,17 @@ module _ (file : List ℕ) where
 
       module _ (h : i < length file / 2) where
         -- a parent above 63
-        pub high-parent : {v : Verdict} → maxName < getD file (i * 2) 0 → v ≡ verdictOf (refuse nameTooHigh i) → read v fillers ≡ readOf (readNames file)
+        pub high-parent : {a : Read} → maxName < getD file (i * 2) 0 → a ≡ refusedBy nameTooHigh i → a ≡ readOf (readNames file)
         high-parent k e = refused-by nameTooHigh i e (by-pairs ∙ read-high-parent file r h k)
 
         -- a child above 63
-        pub high-child : {v : Verdict} → maxName < getD file (i * 2 + 1) 0 → v ≡ verdictOf (refuse nameTooHigh i) → read v fillers ≡ readOf (readNames file)
+        pub high-child : {a : Read} → maxName < getD file (i * 2 + 1) 0 → a ≡ refusedBy nameTooHigh i → a ≡ readOf (readNames file)
         high-child k e = refused-by nameTooHigh i e (by-pairs ∙ read-high-child file r h k)
 
         module _ (parent : getD file (i * 2) 0 ≤ maxName) (child : getD file (i * 2 + 1) 0 ≤ maxName) where
           -- a pair that stood before
-          pub again : {v : Verdict} {p : Place} {k : ℕ} → p ≡ placeOf (placeIn (getD file (i * 2 + 1) 0) (cluesOf t (getD file (i * 2) 0))) → p ≡ place.At k →
-              v ≡ verdictOf (refuse pairAgain i) → read v fillers ≡ readOf (readNames file)
+          pub again : {a : Read} {p : Place} {k : ℕ} → p ≡ placeOf (placeIn (getD file (i * 2 + 1) 0) (cluesOf t (getD file (i * 2) 0))) → p ≡ place.At k →
+              a ≡ refusedBy pairAgain i → a ≡ readOf (readNames file)
           again e at f = refused-by pairAgain i f (by-pairs ∙ read-again file r h parent child _ (place-at _ e at))
 
           module _ {p : Place} {k : ℕ} (e : p ≡ placeOf (placeIn (getD file (i * 2 + 1) 0) (cluesOf t (getD file (i * 2) 0)))) (absent : p ≡ place.Absent)

@@ -1,7 +1,8 @@
 -- What the reader answers and leaves, by the definition of `model`.
 use Prim.Native.Nat.{ℕ}
 use mathlib.Core.List.{List}
-use Rattle.model.specs.Names.{NamesRead}
+use Rattle.model.specs.Refusals.{refuse}
+use Rattle.model.specs.Names.{NamesRead, emptyTable}
 use Rattle.refusals.specs.declared.Verdict.{Verdict}
 use Rattle.refusals.specs.Answers.{verdictOf}
 
@@ -17,3 +18,7 @@ read r t = record { verdict = r; table = t }
 -- as the definition has them
 abbrev pub readOf : NamesRead → Read
 readOf a = record { verdict = verdictOf (a .refusal); table = a .table }
+
+-- a refusal, and a table of empty clues
+abbrev pub refusedBy : ℕ → ℕ → Read
+refusedBy number place = record { verdict = verdictOf (refuse number place); table = emptyTable }

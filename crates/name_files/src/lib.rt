@@ -11,7 +11,7 @@ use refusals::refuse;
 ghost use mathlib.Core.Path.{_≡_};
 ghost use Rattle.model.specs.Names.{readNames};
 ghost use Rattle.model.specs.Bench.{benchTable};
-ghost use Rattle.name_files.specs.Answers.{read, readOf};
+ghost use Rattle.name_files.specs.Answers.{read, readOf, refusedBy};
 
 // A child-name file has at most 8,192 bytes.
 pub const MAX_FILE: usize = 8192;
@@ -19,16 +19,23 @@ pub const MAX_FILE: usize = 8192;
 // The bench's own pairs, parent then child: 0 garage, 1 vehicle, 2 test, 3 axle, 4 curve, 5 note.
 const BENCH_PAIRS: [u8; 14] = [0, 1, 1, 2, 1, 5, 2, 5, 2, 3, 2, 4, 3, 4];
 
+// A refused file leaves a table of empty clues.
+fn refused(table: &mut Table, number: u8, place: usize) -> Verdict
+    ensures { λ r. ⌜ read r (now (table .exit)) ≡ refusedBy number place ⌝ }
+{
+    *table = [[FILLER; 64]; 64];
+    refuse(number, place)
+}
+
 // Reads a child-name file into a table, 1 to 3; a refused one gives a table of empty clues.
 pub fn read_names(file: &[u8], table: &mut Table) -> Verdict
     ensures { λ r. ⌜ read r (now (table .exit)) ≡ readOf (readNames (now (file .entry))) ⌝ }
 {
-    *table = [[FILLER; 64]; 64];
     if file.len() % 2 != 0 {
-        return refuse(Refusal::FILE_LENGTH, 0);
+        return refused(table, Refusal::FILE_LENGTH, 0);
     }
     if MAX_FILE < file.len() {
-        return refuse(Refusal::FILE_LENGTH, 0);
+        return refused(table, Refusal::FILE_LENGTH, 0);
     }
     let mut t: Table = [[FILLER; 64]; 64];
     let n = file.len() / 2;
@@ -37,13 +44,13 @@ pub fn read_names(file: &[u8], table: &mut Table) -> Verdict
         let parent = file[i * 2];
         let child = file[i * 2 + 1];
         if MAX_NAME < parent {
-            return refuse(Refusal::NAME_TOO_HIGH, i);
+            return refused(table, Refusal::NAME_TOO_HIGH, i);
         }
         if MAX_NAME < child {
-            return refuse(Refusal::NAME_TOO_HIGH, i);
+            return refused(table, Refusal::NAME_TOO_HIGH, i);
         }
         let Place::Absent = place_of(&t, parent, child) else {
-            return refuse(Refusal::PAIR_AGAIN, i);
+            return refused(table, Refusal::PAIR_AGAIN, i);
         };
         let k = clue_len(&t, parent);
         let p = parent as usize;

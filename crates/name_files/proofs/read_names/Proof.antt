@@ -9,10 +9,10 @@ use Rattle.name_files.proofs.read_names.Statement.{statement}
 use Rattle.name_files.proofs.read_names.Tie as tie
 
 abbrev Inv-loop : tie.InvT-loop
-Inv-loop file table t₀ n i₀ t i = (n ≡ length file / 2) × Reading file t i
+Inv-loop file table₀ t₀ n i₀ table t i = (n ≡ length file / 2) × Reading file t i
 
 abbrev μ-loop : tie.MeasureT-loop
-μ-loop file table t₀ n i₀ t i = n - i
+μ-loop file table₀ t₀ n i₀ table t i = n - i
 
 pub read-names-spec : {M : Type 1} → statement M
 read-names-spec =
