@@ -14,7 +14,7 @@ use Rattle.model.specs.Basics.{all}
 use Rattle.model.specs.Limits.{maxComponent, maxDepth, labelSize}
 use Rattle.model.specs.Refusals.{check, refuse, notLabel}
 use Rattle.model.specs.Labels.{Label, before, shared, within, kinship, follows, isComponent, labelOf, isLabel, labelCheck, kinshipCall, followsCall}
-use Rattle.model.proofs.Tests.{and-iff, is-false, test-equal}
+use Rattle.model.proofs.Tests.{and-iff, is-true, test-equal}
 use Rattle.model.proofs.LabelWords.{IsLabel, isLabel-iff, labelOf-good}
 use Rattle.model.proofs.Kinship.{shared-comm, follows-iff}
 use Rattle.model.proofs.LabelCalls.{kinship-call, kinship-refused, follows-call, follows-refused}
@@ -214,15 +214,47 @@ known-label a {x} is e = sym is ∙ not-false x e
 pub unknown-label : (a : List ℕ) {x : Bool} → x ≡ isLabel a → not x ≡ true → isLabel a ≡ false
 unknown-label a {x} is e = sym is ∙ not-true x e
 
--- two lists of words that are not both a label: x is what `is_label` answered
-module _ (a b : List ℕ) {x : Bool} where
-  -- the first is none
-  pub not-first : x ≡ isLabel a → not x ≡ true → (isLabel a && isLabel b) ≡ false
-  not-first is e = rw (unknown-label a is e)
+-- two lists of words, asked in turn: x is what `is_label` answered for the first
+module _ (a b : List ℕ) {x : Bool} (is : x ≡ isLabel a) where
+  -- the second decides
+  pub both-rest : x ≡ true → {y : Bool} → y ≡ isLabel b → y ≡ (isLabel a && isLabel b)
+  both-rest e f = rw (← is, e) f
 
-  -- the second is none
-  pub not-second : x ≡ isLabel b → not x ≡ true → (isLabel a && isLabel b) ≡ false
-  not-second is e = is-false (isLabel a && isLabel b) (λ t. subst T (unknown-label b is e) (and-iff (isLabel a) (isLabel b) .0 t .1))
+  -- the first decides
+  pub both-not : x ≡ false → x ≡ (isLabel a && isLabel b)
+  both-not e = rw (← is, e)
+
+-- follows is label order from the second label to the first
+follows-is : (l m : Label) → before m l ≡ follows l m
+follows-is l m = test-equal (before m l) (follows l m) (Iff·symm (follows-iff l m))
+
+-- two lists of words: x is what `both_labels` answered
+module _ (a b : List ℕ) {x : Bool} (is : x ≡ (isLabel a && isLabel b)) where
+  -- they are not both a label
+  pub not-both : not x ≡ true → (isLabel a && isLabel b) ≡ false
+  not-both e = sym is ∙ not-true x e
+
+  module _ (e : not x ≡ false) where
+    -- they are
+    both : T (isLabel a) × T (isLabel b)
+    both = and-iff (isLabel a) (isLabel b) .0 (passed (sym is ∙ not-false x e))
+
+    -- the first is one
+    pub first-label : isLabel a ≡ true
+    first-label = is-true (isLabel a) (both .0)
+
+    -- the second is one
+    pub second-label : isLabel b ≡ true
+    second-label = is-true (isLabel b) (both .1)
+
+    module _ {l m : Label} (p : l ≡ labelOf a) (q : m ≡ labelOf b) where
+      -- kinship is that of the components
+      pub kinship-answers : {k : ℕ} → k ≡ kinship l m → kin.Is k ≡ kinshipOf (kinshipCall a b)
+      kinship-answers f = rw (kinship-call a b (both .0) (both .1), ← p, ← q) (ap kin.Is f)
+
+      -- the first follows where its components come after those of the second
+      pub follows-answers : {r : Bool} → r ≡ before m l → follow.Is r ≡ followsOf (followsCall a b)
+      follows-answers f = rw (follows-call a b (both .0) (both .1), ← p, ← q) (ap follow.Is (f ∙ follows-is l m))
 
 -- a refusal by 15 at place 0
 refusal-is : (r : Refusal) → r .number ≡ notLabel → r .place ≡ 0 → r ≡ refusalOf (record { number = notLabel; place = 0 })
@@ -231,33 +263,14 @@ refusal-is r n p = ap₂ (λ (a b : ℕ). refusalOf (record { number = a; place 
 -- a call on words that are not both a label
 module _ (a b : List ℕ) (n : (isLabel a && isLabel b) ≡ false) where
   -- they do not both pass
-  not-both : (T (isLabel a) × T (isLabel b)) → ⊥
-  not-both h = subst T n (and-iff (isLabel a) (isLabel b) .1 h)
+  never-both : (T (isLabel a) × T (isLabel b)) → ⊥
+  never-both h = subst T n (and-iff (isLabel a) (isLabel b) .1 h)
 
   module _ (r : Refusal) (e : r .number ≡ notLabel) (d : r .place ≡ 0) where
     -- kinship is refused
     pub kinship-refuses : kin.Refused r ≡ kinshipOf (kinshipCall a b)
-    kinship-refuses = rw (kinship-refused a b not-both) (ap kin.Refused (refusal-is r e d))
+    kinship-refuses = rw (kinship-refused a b never-both) (ap kin.Refused (refusal-is r e d))
 
     -- whether the first follows is refused
     pub follows-refuses : follow.Refused r ≡ followsOf (followsCall a b)
-    follows-refuses = rw (follows-refused a b not-both) (ap follow.Refused (refusal-is r e d))
-
--- follows is label order from the second label to the first
-follows-is : (l m : Label) → before m l ≡ follows l m
-follows-is l m = test-equal (before m l) (follows l m) (Iff·symm (follows-iff l m))
-
--- a call on two labels answered: x and y are what `is_label` said, l and m the components
-module _ (a b : List ℕ) {x y : Bool} (is : x ≡ isLabel a) (e : not x ≡ false) (also : y ≡ isLabel b) (d : not y ≡ false)
-    {l m : Label} (p : l ≡ labelOf a) (q : m ≡ labelOf b) where
-  -- kinship is that of the components
-  pub kinship-answers : {k : ℕ} → k ≡ kinship l m → kin.Is k ≡ kinshipOf (kinshipCall a b)
-  kinship-answers f =
-      rw (kinship-call a b (passed (known-label a is e)) (passed (known-label b also d)), ← p, ← q)
-      (ap kin.Is f)
-
-  -- the first follows where its components come after those of the second
-  pub follows-answers : {r : Bool} → r ≡ before m l → follow.Is r ≡ followsOf (followsCall a b)
-  follows-answers f =
-      rw (follows-call a b (passed (known-label a is e)) (passed (known-label b also d)), ← p, ← q)
-      (ap follow.Is (f ∙ follows-is l m))
+    follows-refuses = rw (follows-refused a b never-both) (ap follow.Refused (refusal-is r e d))

@@ -3,7 +3,7 @@ use refusals::Refusal;
 use refusals::Verdict;
 use refusals::refuse;
 ghost use mathlib.Core.Path.{_≡_};
-ghost use mathlib.Core.Bool.{true};
+ghost use mathlib.Core.Bool.{true, _&&_};
 ghost use Prim.Native.Nat.{_≤_, _<_};
 ghost use mathlib.Core.List.{[]};
 ghost use lib.ListN.{length, take, drop};
@@ -201,6 +201,13 @@ fn kin(l: &[u16], m: &[u16]) -> u8
     UNRELATED
 }
 
+// Both are labels.
+fn both_labels(a: &[u16], b: &[u16]) -> bool
+    ensures { λ r. ⌜ r ≡ (model.isLabel (now (a .entry)) && model.isLabel (now (b .entry))) ⌝ }
+{
+    is_label(a) && is_label(b)
+}
+
 // A refusal by 15.
 fn not_label() -> Refusal
     ensures { λ r. ⌜ (r .number ≡ 15) × (r .place ≡ 0) ⌝ }
@@ -215,10 +222,7 @@ fn not_label() -> Refusal
 pub fn kinship(a: &[u16], b: &[u16]) -> KinshipAnswer
     ensures { λ r. ⌜ r ≡ kinshipOf (model.kinshipCall (now (a .entry)) (now (b .entry))) ⌝ }
 {
-    if !is_label(a) {
-        return KinshipAnswer::Refused(not_label());
-    }
-    if !is_label(b) {
+    if !both_labels(a, b) {
         return KinshipAnswer::Refused(not_label());
     }
     let l = components(a);
@@ -230,10 +234,7 @@ pub fn kinship(a: &[u16], b: &[u16]) -> KinshipAnswer
 pub fn follows(a: &[u16], b: &[u16]) -> FollowsAnswer
     ensures { λ r. ⌜ r ≡ followsOf (model.followsCall (now (a .entry)) (now (b .entry))) ⌝ }
 {
-    if !is_label(a) {
-        return FollowsAnswer::Refused(not_label());
-    }
-    if !is_label(b) {
+    if !both_labels(a, b) {
         return FollowsAnswer::Refused(not_label());
     }
     let l = components(a);

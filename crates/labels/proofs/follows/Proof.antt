@@ -1,6 +1,6 @@
 -- `labels::follows` meets its contract: refused by 15 unless both are labels, else the order of their components, the second first.
 use borrow.Author.Needs.{needs}
-use Rattle.labels.proofs.Steps.{known-label, not-first, not-second, follows-refuses, follows-answers}
+use Rattle.labels.proofs.Steps.{not-both, first-label, second-label, follows-refuses, follows-answers}
 use Rattle.labels.proofs.follows.Statement.{statement}
 use Rattle.labels.proofs.follows.Tie as tie
 
@@ -10,11 +10,8 @@ follows-spec =
     (tie.spec
     (λ c κs. search needs)
     (λ c κs. search needs)
-    (λ c. search (follows-refuses, not-first, needs))
-    (λ c κs. search needs)
-    (λ c κs. search needs)
-    (λ c. search (follows-refuses, not-second, needs))
-    (λ c κs. search (known-label, needs))
-    (λ c κs. search (known-label, needs))
+    (λ c. search (follows-refuses, not-both, needs))
+    (λ c κs. search (first-label, needs))
+    (λ c κs. search (second-label, needs))
     (λ c κs. search needs)
     (λ c. search (follows-answers, needs)))

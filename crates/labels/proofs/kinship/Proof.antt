@@ -1,6 +1,6 @@
 -- `labels::kinship` meets its contract: refused by 15 unless both are labels, else the kinship of their components.
 use borrow.Author.Needs.{needs}
-use Rattle.labels.proofs.Steps.{known-label, not-first, not-second, kinship-refuses, kinship-answers}
+use Rattle.labels.proofs.Steps.{not-both, first-label, second-label, kinship-refuses, kinship-answers}
 use Rattle.labels.proofs.kinship.Statement.{statement}
 use Rattle.labels.proofs.kinship.Tie as tie
 
@@ -10,11 +10,8 @@ kinship-spec =
     (tie.spec
     (λ c κs. search needs)
     (λ c κs. search needs)
-    (λ c. search (kinship-refuses, not-first, needs))
-    (λ c κs. search needs)
-    (λ c κs. search needs)
-    (λ c. search (kinship-refuses, not-second, needs))
-    (λ c κs. search (known-label, needs))
-    (λ c κs. search (known-label, needs))
+    (λ c. search (kinship-refuses, not-both, needs))
+    (λ c κs. search (first-label, needs))
+    (λ c κs. search (second-label, needs))
     (λ c κs. search needs)
     (λ c. search (kinship-answers, needs)))
