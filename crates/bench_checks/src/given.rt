@@ -41,8 +41,9 @@ fn give(n: usize, k: usize, next: u16) -> u16 {
 
 // The number of a child name below a name of the bench.
 fn below(table: &Table, parent: u8, child: u8, next: u16) -> u16 {
-    match place_of(table, parent, child) {
-        Place::At(k) => give(clue_len(table, parent), k, next),
+    let p = parent as usize;
+    match place_of(table, p, child) {
+        Place::At(k) => give(clue_len(table, p), k, next),
         Place::Absent => {
             say(b" no place");
             next

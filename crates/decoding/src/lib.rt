@@ -39,15 +39,15 @@ fn walk(table: &Table, root: u8, parts: &[u16]) -> Decoding
 {
     let mut names = [0u8; 16];
     names[0] = root;
-    let mut p = root;
+    let mut p = root as usize;
     let mut i: usize = 0;
     while i < parts.len() {
         let Child::Name(c) = child_of(table, p, parts[i]) else {
             return refused(Refusal::EMPTY_CLUE, i + 1);
         };
-        p = c;
+        p = c as usize;
         i += 1;
-        names[i] = p;
+        names[i] = c;
     }
     Decoding {
         verdict: Verdict::Passed,

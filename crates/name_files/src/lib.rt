@@ -49,11 +49,11 @@ pub fn read_names(file: &[u8], table: &mut Table) -> Verdict
         if MAX_NAME < child {
             return refused(table, Refusal::NAME_TOO_HIGH, i);
         }
-        let Place::Absent = place_of(&t, parent, child) else {
+        let p = parent as usize;
+        let Place::Absent = place_of(&t, p, child) else {
             return refused(table, Refusal::PAIR_AGAIN, i);
         };
-        let k = clue_len(&t, parent);
-        let p = parent as usize;
+        let k = clue_len(&t, p);
         t[p][k] = child;
         i += 1;
     }

@@ -47,15 +47,14 @@ fn rows_of(table: &Table) -> &[[u8; 64]]
 }
 
 // A name's row, copied; no names for a number that is no name.
-fn row_of(table: &Table, parent: u8) -> [u8; 64]
+fn row_of(table: &Table, parent: usize) -> [u8; 64]
     ensures { λ r. ⌜ model.namesOf r ≡ model.cluesOf (now (table .entry)) parent ⌝ }
 {
     let rows = rows_of(table);
-    let p = parent as usize;
-    if rows.len() <= p {
+    if rows.len() <= parent {
         return [FILLER; 64];
     }
-    rows[p]
+    rows[parent]
 }
 
 // How many names a row has before its filling.
@@ -73,7 +72,7 @@ fn row_len(row: &[u8]) -> usize
 }
 
 // How many names the clue of a name has.
-pub fn clue_len(table: &Table, parent: u8) -> usize
+pub fn clue_len(table: &Table, parent: usize) -> usize
     ensures { λ r. ⌜ r ≡ length (model.cluesOf (now (table .entry)) parent) ⌝ }
 {
     let row = row_of(table, parent);
@@ -99,7 +98,7 @@ fn row_place(row: &[u8], child: u8) -> Place
 }
 
 // The place of a child name in the clue of a name.
-pub fn place_of(table: &Table, parent: u8, child: u8) -> Place
+pub fn place_of(table: &Table, parent: usize, child: u8) -> Place
     ensures { λ r. ⌜ r ≡ placeOf (model.placeIn child (model.cluesOf (now (table .entry)) parent)) ⌝ }
 {
     let row = row_of(table, parent);
@@ -119,7 +118,7 @@ fn row_child(row: &[u8], component: u16) -> Child
 }
 
 // The name that a component leads to from a name.
-pub fn child_of(table: &Table, parent: u8, component: u16) -> Child
+pub fn child_of(table: &Table, parent: usize, component: u16) -> Child
     ensures { λ r. ⌜ r ≡ childOf (model.led (model.cluesOf (now (table .entry)) parent) component) ⌝ }
 {
     let row = row_of(table, parent);

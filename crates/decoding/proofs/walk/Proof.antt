@@ -32,5 +32,6 @@ walk-spec =
     (λ c. search needs)
     (λ c. search needs)
     (λ c. search needs)
+    (λ c. search needs)
     (λ c. search (walk-on, needs))
     (λ c. search (walk-end, needs)))
