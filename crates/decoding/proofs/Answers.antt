@@ -18,6 +18,7 @@ use Rattle.refusals.specs.declared.Refusal.{Refusal}
 use Rattle.refusals.specs.declared.Verdict.{Verdict}
 use Rattle.refusals.specs.declared.Verdict.the-variants as verdict
 use Rattle.refusals.specs.Answers.{verdictOf}
+use Rattle.refusals.proofs.Verdicts.{passed-none, refused-check}
 use Rattle.decoding.specs.declared.Decoding.{Decoding}
 use Rattle.decoding.specs.Answers.{decodingOf, refusedBy, decodedBy}
 
@@ -25,19 +26,6 @@ use Rattle.decoding.specs.Answers.{decodingOf, refusedBy, decodedBy}
 pub no-names : {v : Verdict} {n place : ℕ} → v ≡ verdictOf (refuse n place) →
     _≡_ {A = Decoding} (record { verdict = v; names = replicate labelSize 0 }) (refusedBy n place)
 no-names e = ap {B = Decoding} (λ v. record { verdict = v; names = replicate labelSize 0 }) e
-
--- a table that passed
-table-passed : (b : Bool) {v : Verdict} → v ≡ verdictOf (check b badTable 0) → v ≡ verdict.Passed → check b badTable 0 ≡ none
-unfolding check
-table-passed true e f = refl
-table-passed false e f = absurd (let z : _≡_ {A = ℕ} 0 1 = cc in omega arith)
-
--- a table that did not
-table-failed : (b : Bool) {v : Verdict} {x : Refusal} → v ≡ verdictOf (check b badTable 0) → v ≡ verdict.Refused x →
-    check b badTable 0 ≡ refuse badTable 0
-unfolding check
-table-failed true e f = absurd (let z : _≡_ {A = ℕ} 0 1 = cc in omega arith)
-table-failed false e f = refl
 
 module _ (rows : List (List ℕ)) (root : ℕ) (ws : List ℕ) where
   -- a refused call
@@ -60,14 +48,14 @@ module _ (rows : List (List ℕ)) (root : ℕ) (ws : List ℕ) where
     -- a table that is ruled out
     pub bad-table : {x : Refusal} {r : Decoding} → v ≡ verdict.Refused x → r ≡ refusedBy badTable 0 → r ≡ decodingOf (model.decodeCall rows root ws)
     unfolding model.decodeRefusal tableCheck
-    bad-table f e = e ∙ refused-by badTable 0 (first-here _ _ _ (table-failed (all goodRow rows) checked f))
+    bad-table f e = e ∙ refused-by badTable 0 (first-here _ _ _ (refused-check (all goodRow rows) badTable 0 checked f))
 
     module _ (good : v ≡ verdict.Passed) where
       -- a root name above 63
       pub high-root : {r : Decoding} → maxName < root → r ≡ refusedBy badRoot 0 → r ≡ decodingOf (model.decodeCall rows root ws)
       unfolding model.decodeRefusal tableCheck rootCheck isName
       high-root h e =
-          e ∙ refused-by badRoot 0 (first-rest _ _ (table-passed (all goodRow rows) checked good) ∙
+          e ∙ refused-by badRoot 0 (first-rest _ _ (passed-none (tableCheck rows) checked good) ∙
           first-here _ _ _ (check-failed (isName root) badRoot 0 (λ t. omega (arith, leb→le root maxName t))))
 
       module _ (low : root ≤ maxName) {b : Bool} (is : b ≡ model.isLabel ws) where
@@ -75,7 +63,7 @@ module _ (rows : List (List ℕ)) (root : ℕ) (ws : List ℕ) where
         to-label : model.decodeRefusal rows root ws ≡ first (model.labelCheck ws ∷ model.pathCheck (model.decode (cluesOf rows) root (model.labelOf ws)) ∷ [])
         unfolding model.decodeRefusal tableCheck rootCheck isName
         to-label =
-            first-rest _ _ (table-passed (all goodRow rows) checked good) ∙ first-rest _ _ (check-passed (isName root) badRoot 0 (le→leb root maxName low))
+            first-rest _ _ (passed-none (tableCheck rows) checked good) ∙ first-rest _ _ (check-passed (isName root) badRoot 0 (le→leb root maxName low))
 
         -- words that are no label
         pub no-label : {r : Decoding} → not b ≡ true → r ≡ refusedBy notLabel 0 → r ≡ decodingOf (model.decodeCall rows root ws)

@@ -15,21 +15,12 @@ use Rattle.model.specs.Labels.{Label, path, stuck, decode, pathCheck, namesIn}
 use Rattle.model.proofs.LabelOrder.{last-snoc}
 use Rattle.model.proofs.Decode.{further, decode-snoc, decode-child}
 use Rattle.names.specs.Answers.{childOf}
+use Rattle.names.proofs.Children.{child-name, child-nowhere}
 use Rattle.names.specs.declared.Child.{Child}
 use Rattle.names.specs.declared.Child.the-variants as child
 use Rattle.refusals.specs.declared.Verdict.the-variants as verdict
 use Rattle.decoding.specs.declared.Decoding.{Decoding}
 use Rattle.decoding.specs.Answers.{refusedBy, decodedBy}
-
--- what the lookup of a child says of the definition
-child-name : (o : Option ℕ) {c : ℕ} {r : Child} → r ≡ childOf o → r ≡ child.Name c → some c ≡ o
-child-name none p q = absurd (let z : _≡_ {A = ℕ} 0 1 = cc in omega arith)
-child-name (some d) p q = cc
-
--- and that it leads nowhere
-child-nowhere : (o : Option ℕ) {r : Child} → r ≡ childOf o → r ≡ child.Nowhere → none ≡ o
-child-nowhere none p q = refl
-child-nowhere (some d) p q = absurd (let z : _≡_ {A = ℕ} 0 1 = cc in omega arith)
 
 -- a label that goes on from one that is stuck is stuck there too
 stuck-more : (cl : Clues) (p : ℕ) (l m : Label) (i : ℕ) → decode cl p l ≡ stuck i → decode cl p (l ++ m) ≡ stuck i

@@ -70,7 +70,7 @@ sound-refusal cl count ws r e = go (fault cl [] (records count ws)) e
         (f, refl, ap (λ (r : Refusal). r .number) h, ap (λ (r : Refusal). r .place) h)
 
 -- every rule has the number 19
-rule-number : (x : Rule) → numberOf x ≡ unsound
+pub rule-number : (x : Rule) → numberOf x ≡ unsound
 unfolding numberOf
 rule-number layoutRule = refl
 rule-number orderRule = refl

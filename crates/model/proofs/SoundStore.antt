@@ -67,7 +67,7 @@ closed-next cl e t h =
     go false b t h = absurd h
 
 -- the element found for a label is one of the elements and has that label
-find-mem : (l : Label) (es : List Element) (p : Element) → find l es ≡ some p → p ∈ es × (p .label ≡ l)
+pub find-mem : (l : Label) (es : List Element) (p : Element) → find l es ≡ some p → p ∈ es × (p .label ≡ l)
 unfolding find
 find-mem l [] p e = absurd (Option·none-ne-some p e)
 find-mem l (x ∷ es) p e = go (same (x .label) l) (same? (x .label) l) e (find-mem l es p)
@@ -87,7 +87,7 @@ leads-led clue x name t = go (led clue x) t
     go (some c) t = ap some (eqb-alike c name .0 t)
 
 -- a passed test leaves the rules after it
-test-rest : (b : Bool) (r : Rule) (o : Option Rule) → test b r o ≡ none → o ≡ none
+pub test-rest : (b : Bool) (r : Rule) (o : Option Rule) → test b r o ≡ none → o ≡ none
 unfolding test
 test-rest true r o e = e
 test-rest false r o e = absurd (Option·some-ne-none r e)

@@ -1,0 +1,18 @@
+-- What the lookup of a child tells of the definition.
+use Prim.Native.Nat.{ℕ}
+use mathlib.Core.Path.{_≡_, refl}
+use mathlib.Core.Option.{Option, none, some}
+use native.Mathlib.Omega.{arith}
+use Rattle.names.specs.Answers.{childOf}
+use Rattle.names.specs.declared.Child.{Child}
+use Rattle.names.specs.declared.Child.the-variants as child
+
+-- a name that was found
+pub child-name : (o : Option ℕ) {c : ℕ} {r : Child} → r ≡ childOf o → r ≡ child.Name c → some c ≡ o
+child-name none p q = absurd (let z : _≡_ {A = ℕ} 0 1 = cc in omega arith)
+child-name (some d) p q = cc
+
+-- a component that leads nowhere
+pub child-nowhere : (o : Option ℕ) {r : Child} → r ≡ childOf o → r ≡ child.Nowhere → none ≡ o
+child-nowhere none p q = refl
+child-nowhere (some d) p q = absurd (let z : _≡_ {A = ℕ} 0 1 = cc in omega arith)

@@ -1,0 +1,8 @@
+pub mod Fits
+pub mod Order
+pub mod Trail
+pub mod Pass
+pub mod Rules
+pub mod Ready
+pub mod Scan
+pub mod Checks

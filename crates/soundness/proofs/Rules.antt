@@ -1,0 +1,175 @@
+-- What each way out of the code on one record tells of the rules.
+use Prim.Native.Nat.{ℕ, _+_, _-_, _*_, _<_, _≤_}
+use mathlib.Core.Path.{_≡_, refl, sym, ap, ap₂, subst, _∙_}
+use mathlib.Core.Bool.{Bool, true, false, not, _||_}
+use mathlib.Core.List.{List, []}
+use mathlib.Core.Option.{Option, none, some}
+use native.Mathlib.Omega.{arith}
+use lib.ListN.{length, getD}
+use lib.Dec.{T, eqb, ltb}
+use borrow.Author.Tests.{eq-eqb, ne-eqb, lt-ltb, le-ltb, le-leb, lt-leb, not-true, not-false}
+use Rattle.model.specs.Basics.{elim?, last}
+use Rattle.model.specs.Limits.{maxDepth, maxName, recordSize, nameWord, nextWord}
+use Rattle.model.specs.Refusals.{unsound}
+use Rattle.model.specs.Names.{Clues, led, isName}
+use Rattle.model.specs.Labels.{Label, before, shared, labelOf}
+use Rattle.model.specs.Store as model
+use Rattle.model.proofs.Faults.{rule-number}
+use Rattle.model.proofs.Kinship.{shared-low}
+use Rattle.names.specs.Answers.{childOf}
+use Rattle.names.specs.declared.Child.{Child}
+use Rattle.names.specs.declared.Child.the-variants as child
+use Rattle.names.proofs.Children.{child-name, child-nowhere}
+use Rattle.records.specs.Records.{recordAt}
+use Rattle.records.proofs.Parts.{record-word, record-label, record-long}
+use Rattle.soundness.specs.Rules.{closedBy, brokenRoot, brokenBelow}
+use Rattle.soundness.specs.Answers.{Numbered, checkOf}
+use Rattle.soundness.specs.declared.Rule.{Rule}
+use Rattle.soundness.specs.declared.Rule.the-variants as rule
+use Rattle.soundness.specs.declared.Check.{Check}
+use Rattle.soundness.specs.declared.Check.the-variants as check
+
+-- every rule has the number 19
+pub numbered : (r : Rule) → Numbered r unsound
+numbered r x e = sym (rule-number x)
+
+-- either test, where the second passes
+or-true : (a : Bool) → (a || true) ≡ true
+or-true true = refl
+or-true false = refl
+
+-- either test, where the second fails
+or-false : (a : Bool) → (a || false) ≡ a
+or-false true = refl
+or-false false = refl
+
+-- a next number by the clue and the depth
+module _ (clue : List ℕ) (depth next : ℕ) where
+  -- it is 0
+  pub closed-zero : next ≡ 0 → true ≡ closedBy clue depth next
+  unfolding closedBy
+  closed-zero e = sym (ap (λ b. not (eqb (length clue) 0 || eqb depth maxDepth) || b) (eq-eqb next 0 e) ∙ or-true (not (eqb (length clue) 0 || eqb depth maxDepth)))
+
+  module _ (n : next ≡ 0 → ⊥) where
+    -- the depth is 15
+    pub closed-deep : depth ≡ maxDepth → false ≡ closedBy clue depth next
+    unfolding closedBy
+    closed-deep e = rw (ne-eqb next 0 n, eq-eqb depth maxDepth e, or-true)
+
+    -- the clue decides
+    pub closed-clue : (depth ≡ maxDepth → ⊥) → {k : ℕ} → k ≡ length clue → not (eqb k 0) ≡ closedBy clue depth next
+    unfolding closedBy
+    closed-clue h e = rw (ne-eqb next 0 n, ne-eqb depth maxDepth h, or-false, or-false, e)
+
+-- a component below a clue
+module _ (clue : List ℕ) (x name : ℕ) {c : Child} (is : c ≡ childOf (led clue x)) where
+  -- it leads nowhere
+  pub leads-nowhere : c ≡ child.Nowhere → false ≡ model.leads clue x name
+  unfolding model.leads elim?
+  leads-nowhere e = rw (← child-nowhere (led clue x) is e)
+
+  -- it leads to a name
+  pub leads-name : {d : ℕ} → c ≡ child.Name d → eqb d name ≡ model.leads clue x name
+  unfolding model.leads elim?
+  leads-name e = rw (← child-name (led clue x) is e)
+
+-- the rules of record 0
+module _ (cl : Clues) (ws : List ℕ) where
+  -- its name
+  root-word : model.readElement (recordAt 0 ws) .name ≡ getD ws nameWord 0
+  unfolding model.readElement
+  root-word = record-word ws 0 nameWord (omega arith)
+
+  -- a name above 63
+  pub root-high : maxName < getD ws nameWord 0 → check.Broken rule.Name ≡ checkOf (brokenRoot cl (model.readElement (recordAt 0 ws)))
+  unfolding brokenRoot isName model.test
+  root-high h = rw (root-word, lt-leb (getD ws nameWord 0) maxName h)
+
+  module _ (low : getD ws nameWord 0 ≤ maxName) (flat : getD ws 0 0 ≡ 0) (room : recordSize ≤ length ws) {b : Bool}
+      (is : b ≡ closedBy (cl (getD ws nameWord 0)) 0 (getD ws nextWord 0)) where
+    -- the rule of its next number
+    root-closed : b ≡ model.closed cl (model.readElement (recordAt 0 ws))
+    unfolding closedBy model.closed model.readElement
+    root-closed =
+        let deep : getD ws (0 * recordSize) 0 ≤ maxDepth = omega arith in
+        let long : length (labelOf (recordAt 0 ws)) ≡ 0 = ap length (sym (record-label ws 0 deep)) ∙ record-long ws 0 deep room ∙ flat in
+        is ∙ rw (root-word, long, record-word ws 0 nextWord (omega arith))
+
+    -- it is broken
+    pub root-next : not b ≡ true → check.Broken rule.Next ≡ checkOf (brokenRoot cl (model.readElement (recordAt 0 ws)))
+    unfolding brokenRoot isName model.test
+    root-next e = rw (← root-closed, not-true b e, root-word, le-leb (getD ws nameWord 0) maxName low)
+
+    -- it is kept
+    pub root-kept : not b ≡ false → check.Kept ≡ checkOf (brokenRoot cl (model.readElement (recordAt 0 ws)))
+    unfolding brokenRoot isName model.test
+    root-kept e = rw (← root-closed, not-false b e, root-word, le-leb (getD ws nameWord 0) maxName low)
+
+-- labels share at most fifteen components
+pub shared-few : (l m : Label) {s d : ℕ} → s ≡ shared l m → length l ≡ d → d ≤ maxDepth → s + 1 < 17
+shared-few l m is long low = omega (arith, shared-low l m)
+
+-- the rules of a record behind another, below the record with the number `parent`
+module _ (cl : Clues) (ws : List ℕ) (r parent : ℕ) {l m : Label} (p : l ≡ labelOf (recordAt r ws)) (q : m ≡ labelOf (recordAt (r + 1) ws)) {s : ℕ}
+    (is : s ≡ shared l m) where
+  -- what they say
+  abbrev answer : Check
+  answer = checkOf (brokenBelow cl (model.readElement (recordAt r ws)) (model.readElement (recordAt parent ws)) (model.readElement (recordAt (r + 1) ws)))
+
+  module _ {b : Bool} (order : b ≡ before l m) where
+    -- a label that does not come after the previous one
+    pub below-order : not b ≡ true → check.Broken rule.Order ≡ answer
+    unfolding brokenBelow model.readElement model.test
+    below-order e = rw (← p, ← q, ← order, not-true b e)
+
+    module _ (ascends : not b ≡ false) where
+      -- a parent that does not stand earlier
+      pub below-parent : (s + 1 ≡ length m → ⊥) → check.Broken rule.Parent ≡ answer
+      unfolding brokenBelow model.readElement model.test
+      below-parent e = rw (← p, ← q, ← order, not-false b ascends, ← is, ne-eqb _ _ e)
+
+      module _ (stands : s + 1 ≡ length m) {k : Bool}
+          (led : k ≡ model.leads (cl (getD ws (parent * recordSize + nameWord) 0)) (getD m s 0) (getD ws ((r + 1) * recordSize + nameWord) 0)) where
+        -- the last component
+        last-is : getD m s 0 ≡ last m
+        unfolding last
+        last-is = let d : s ≡ length m - 1 = omega arith in ap (λ i. getD m i 0) d
+
+        -- the name that the parent's leads to
+        led-is : k ≡ model.leads (cl (getD (recordAt parent ws) nameWord 0)) (last m) (getD (recordAt (r + 1) ws) nameWord 0)
+        led-is = led ∙ rw (last-is, record-word ws parent nameWord (omega arith), record-word ws (r + 1) nameWord (omega arith))
+
+        -- another name
+        pub below-name : not k ≡ true → check.Broken rule.Name ≡ answer
+        unfolding brokenBelow model.readElement model.test
+        below-name e = rw (← p, ← q, ← order, not-false b ascends, ← is, eq-eqb _ _ stands, ← led-is, not-true k e)
+
+        module _ (named : not k ≡ false) where
+          -- a last component that is not below the parent's next number
+          pub below-last : getD ws (parent * recordSize + nextWord) 0 ≤ getD m s 0 → check.Broken rule.Last ≡ answer
+          unfolding brokenBelow model.readElement model.test
+          below-last h =
+              let over : ltb (last m) (getD (recordAt parent ws) nextWord 0) ≡ false =
+              ap₂ ltb (sym last-is) (record-word ws parent nextWord (omega arith)) ∙ le-ltb _ _ h in
+              rw (← p, ← q, ← order, not-false b ascends, ← is, eq-eqb _ _ stands, ← led-is, not-false k named, over)
+
+          module _ (h : getD m s 0 < getD ws (parent * recordSize + nextWord) 0) {f : Bool}
+              (shut : f ≡ closedBy (cl (getD ws ((r + 1) * recordSize + nameWord) 0)) (s + 1) (getD ws ((r + 1) * recordSize + nextWord) 0)) where
+            -- the last component is below it
+            under : ltb (last m) (getD (recordAt parent ws) nextWord 0) ≡ true
+            under = ap₂ ltb (sym last-is) (record-word ws parent nextWord (omega arith)) ∙ lt-ltb _ _ h
+
+            -- the rule of its own next number
+            shut-is : f ≡ model.closed cl (model.readElement (recordAt (r + 1) ws))
+            unfolding closedBy model.closed model.readElement
+            shut-is = shut ∙ rw (← q, ← stands, record-word ws (r + 1) nameWord (omega arith), record-word ws (r + 1) nextWord (omega arith))
+
+            -- it is broken
+            pub below-next : not f ≡ true → check.Broken rule.Next ≡ answer
+            unfolding brokenBelow model.readElement model.test
+            below-next e = rw (← shut-is, ← p, ← q, ← order, not-false b ascends, ← is, eq-eqb _ _ stands, ← led-is, not-false k named, under, not-true f e)
+
+            -- it is kept
+            pub below-kept : not f ≡ false → check.Kept ≡ answer
+            unfolding brokenBelow model.readElement model.test
+            below-kept e = rw (← shut-is, ← p, ← q, ← order, not-false b ascends, ← is, eq-eqb _ _ stands, ← led-is, not-false k named, under, not-false f e)

@@ -1,0 +1,168 @@
+-- The pass over the records: what holds before record r, and what each way out of the loops tells of the definition.
+use Prim.Native.Nat.{ℕ, zero, suc, _+_, _-_, _*_, _<_, _≤_}
+use mathlib.Core.Path.{_≡_, refl, sym, ap, ap₂, subst, _∙_}
+use mathlib.Core.Logic.{by-cases}
+use mathlib.Core.Bool.{Bool, true, false, not}
+use mathlib.Core.List.{List, [], _∷_}
+use mathlib.Core.Option.{Option, none, some}
+use native.Mathlib.Decide.{decLt}
+use native.Mathlib.Omega.{arith}
+use native.Mathlib.Numerals.{add-one}
+use lib.ListN.{length, getD, take, drop, set, replicate, length-set, getD-replicate}
+use lib.Seq.{drop-drop, getD-set-same, getD-set-other}
+use lib.Dec.{T, eqb, ltb}
+use borrow.Author.Tests.{not-true, not-false}
+use Rattle.model.specs.Basics.{elim?}
+use Rattle.model.specs.Limits.{maxDepth, recordSize, labelSize}
+use Rattle.model.specs.Names.{Clues}
+use Rattle.model.specs.Store as model
+use Rattle.model.proofs.Tests.{and-iff, is-true}
+use Rattle.model.proofs.Relaid.{laid-depth}
+use Rattle.records.specs.Records.{recordAt}
+use Rattle.records.proofs.Parts.{record-depth}
+use Rattle.soundness.specs.Rules.{Laid, Ready, depthFits, wordFits, brokenAt}
+use Rattle.soundness.specs.Answers.{ruleOf, checkOf, soundnessOf}
+use Rattle.soundness.specs.declared.Rule.{Rule}
+use Rattle.soundness.specs.declared.Rule.the-variants as rule
+use Rattle.soundness.specs.declared.Check.{Check}
+use Rattle.soundness.specs.declared.Check.the-variants as check
+use Rattle.soundness.specs.declared.Soundness.{Soundness}
+use Rattle.soundness.specs.declared.Soundness.the-variants as soundness
+use Rattle.soundness.proofs.Fits.{fitting-depth, depth-root, depth-below}
+use Rattle.soundness.proofs.Trail.{behind, Trail}
+use Rattle.soundness.proofs.Pass.{broken-is, trail-on}
+
+-- before record r: no earlier record breaks a rule, and the records that later ones may stand below are known
+pub record Scanned (cl : Clues) (count : ℕ) (ws parents : List ℕ) (r : ℕ) : Type 0 where
+  pub sized : length parents ≡ 17
+  pub earlier : (j : ℕ) → getD parents j 0 ≤ r
+  pub shallow : (q : ℕ) → q < r → getD ws (q * recordSize) 0 ≤ maxDepth
+  pub trail : Trail ws r parents
+  pub rest : model.fault cl [] (model.records count ws) ≡ model.fault cl (behind r ws) (model.records (count - r) (drop (r * recordSize) ws))
+
+-- as many elements stand behind record r as there are records before it
+length-behind : (r : ℕ) (ws : List ℕ) → length (behind r ws) ≡ r
+unfolding behind
+length-behind zero ws = refl
+length-behind (suc r) ws = ap suc (length-behind r ws)
+
+-- numbers up to a bound stay so where one is replaced by another up to it
+set-under : (l : List ℕ) (i x n : ℕ) → ((j : ℕ) → getD l j 0 ≤ n) → x ≤ n → (j : ℕ) → getD (set l i x) j 0 ≤ n
+set-under [] i x n h k j = h j
+set-under (a ∷ l) zero x n h k zero = k
+set-under (a ∷ l) zero x n h k (suc j) = h (suc j)
+set-under (a ∷ l) (suc i) x n h k zero = h zero
+set-under (a ∷ l) (suc i) x n h k (suc j) = set-under l i x n (λ j. h (suc j)) k j
+
+-- at the start
+pub scan-start : (cl : Clues) (count : ℕ) (ws : List ℕ) → Scanned cl count ws (replicate 17 0) 0
+unfolding behind
+scan-start cl count ws =
+    let all : count - 0 ≡ count = omega arith in
+    record {
+      sized = refl;
+      earlier = zeros 17;
+      shallow = λ q h. absurd (omega arith);
+      trail = tt;
+      rest = rw all refl;
+    }
+  where
+    zeros : (n j : ℕ) → getD (replicate n 0) j 0 ≤ 0
+    zeros zero j = omega arith
+    zeros (suc n) zero = omega arith
+    zeros (suc n) (suc j) = zeros n j
+
+-- a rule that is not kept is the one broken
+test-fails : (b : Bool) (r : model.Rule) (o : Option model.Rule) → (T b → ⊥) → model.test b r o ≡ some r
+unfolding model.test
+test-fails true r o h = absurd (h tt)
+test-fails false r o h = refl
+
+-- a record with another depth or layout breaks the first rule
+layout-broken : (cl : Clues) (ws : List ℕ) (r : ℕ) → (Laid ws r → ⊥) → model.broken cl (behind r ws) (recordAt r ws) ≡ some model.layoutRule
+unfolding model.broken behind
+layout-broken cl ws zero h = test-fails _ _ _ (λ t.
+    let (laid, flat) = and-iff (model.laidOut (recordAt zero ws)) _ .0 t in
+    h (sym (depth-root zero _ (shallow laid) refl) ∙ is-true _ (subst (λ d. T (eqb d 0)) (record-depth ws zero) flat), is-true _ laid))
+  where
+    shallow : T (model.laidOut (recordAt zero ws)) → getD ws (zero * recordSize) 0 ≤ maxDepth
+    shallow laid = subst (λ d. d ≤ maxDepth) (record-depth ws zero) (laid-depth (recordAt zero ws) laid)
+layout-broken cl ws (suc r) h = test-fails _ _ _ (λ t.
+    let (laid, deep) = and-iff (model.laidOut (recordAt (suc r) ws)) _ .0 t in
+    h (sym (depth-below (suc r) _ (shallow laid) (λ e. omega arith)) ∙ is-true _ (subst (λ d. T (ltb 0 d)) (record-depth ws (suc r)) deep), is-true _ laid))
+  where
+    shallow : T (model.laidOut (recordAt (suc r) ws)) → getD ws (suc r * recordSize) 0 ≤ maxDepth
+    shallow laid = subst (λ d. d ≤ maxDepth) (record-depth ws (suc r)) (laid-depth (recordAt (suc r) ws) laid)
+
+-- a rule is broken, as the code says it
+said-broken : (o : Option model.Rule) {k : Check} {x : Rule} → k ≡ checkOf o → k ≡ check.Broken x → (y : model.Rule) × (o ≡ some y) × (ruleOf y ≡ x)
+said-broken none e f = absurd (let z : _≡_ {A = ℕ} 0 1 = cc in omega arith)
+said-broken (some y) e f = (y, refl, cc)
+
+-- none is
+said-kept : (o : Option model.Rule) {k : Check} → k ≡ checkOf o → k ≡ check.Kept → o ≡ none
+said-kept none e f = refl
+said-kept (some y) e f = absurd (let z : _≡_ {A = ℕ} 0 1 = cc in omega arith)
+
+module _ (cl : Clues) (count : ℕ) (ws parents : List ℕ) (r : ℕ) (scanned : Scanned cl count ws parents r) where
+  -- at the end the store is sound
+  pub scan-end : count ≤ r → soundness.Sound ≡ soundnessOf (model.fault cl [] (model.records count ws))
+  unfolding model.fault model.records
+  scan-end h = let none-left : count - r ≡ 0 = omega arith in rw (scanned .rest, none-left)
+
+  module _ (h : r < count) where
+    -- what record r breaks decides, or the rest
+    next : model.fault cl [] (model.records count ws) ≡
+        elim? (model.broken cl (behind r ws) (recordAt r ws))
+        (model.fault cl (model.readElement (recordAt r ws) ∷ behind r ws) (model.records (count - (r + 1)) (drop ((r + 1) * recordSize) ws)))
+        (λ b. some (record { place = r; rule = b }))
+    unfolding model.fault model.records recordAt
+    next =
+        let more : count - r ≡ suc (count - (r + 1)) = omega arith in
+        let on : r * recordSize + recordSize ≡ (r + 1) * recordSize = omega arith in
+        scanned .rest ∙ rw (more, drop-drop recordSize (r * recordSize) ws, on, length-behind r ws)
+
+    -- a rule that record r breaks
+    breaks : (x : model.Rule) → model.broken cl (behind r ws) (recordAt r ws) ≡ some x →
+        soundness.Broken (ruleOf x) r ≡ soundnessOf (model.fault cl [] (model.records count ws))
+    unfolding elim?
+    breaks x e = rw (next, e)
+
+    -- its depth does not fit
+    pub scan-depth : {b : Bool} → b ≡ depthFits r (getD ws (r * recordSize) 0) → not b ≡ true →
+        soundness.Broken rule.Layout r ≡ soundnessOf (model.fault cl [] (model.records count ws))
+    scan-depth {b} is e = breaks model.layoutRule (layout-broken cl ws r (λ l. subst T (sym is ∙ not-true b e) (subst T (sym (l .0)) tt)))
+
+    -- a word of its label does not fit
+    pub scan-word : model.laidOut (recordAt r ws) ≡ false → soundness.Broken rule.Layout r ≡ soundnessOf (model.fault cl [] (model.records count ws))
+    scan-word e = breaks model.layoutRule (layout-broken cl ws r (λ l. subst T e (subst T (sym (l .1)) tt)))
+
+    -- it can be tested behind its layout
+    pub scan-ready : count * recordSize ≤ length ws → Laid ws r → Ready ws r (getD parents (getD ws (r * recordSize) 0) 0)
+    scan-ready room laid = record { room = omega arith; laid = laid; earlier = scanned .earlier _; shallow = scanned .shallow }
+
+    module _ (room : count * recordSize ≤ length ws) (laid : Laid ws r) {k : Check}
+        (is : k ≡ checkOf (brokenAt cl ws r (getD parents (getD ws (r * recordSize) 0) 0))) where
+      -- it fits a record of the slice
+      inside : r * recordSize + recordSize ≤ length ws
+      inside = omega arith
+
+      -- it breaks a later rule
+      pub scan-rule : {x : Rule} → k ≡ check.Broken x → soundness.Broken x r ≡ soundnessOf (model.fault cl [] (model.records count ws))
+      scan-rule e =
+          let (y, at, named) = said-broken _ is e in
+          ap (λ x. soundness.Broken x r) (sym named) ∙ breaks y (broken-is cl ws parents r (scanned .trail) inside laid ∙ at)
+
+      -- it breaks none
+      pub scan-on : k ≡ check.Kept → Scanned cl count ws (set parents (getD ws (r * recordSize) 0 + 1) r) (r + 1)
+      unfolding behind elim?
+      scan-on e =
+          let kept = said-kept _ is e in
+          let none-broken = broken-is cl ws parents r (scanned .trail) inside laid ∙ kept in
+          record {
+            sized = length-set parents _ r ∙ scanned .sized;
+            earlier = set-under parents _ r (r + 1) (λ j. omega (arith, scanned .earlier j)) (omega arith);
+            shallow = λ q a. by-cases (decLt q r) (scanned .shallow q) (λ n. let at : q ≡ r = omega arith in rw at (fitting-depth r _ (laid .0)));
+            trail = rw add-one (trail-on cl ws parents r (scanned .trail) inside laid (scanned .sized) kept);
+            rest = next ∙ rw (none-broken, add-one);
+          }

@@ -1,0 +1,15 @@
+-- `soundness::record_rules` meets its contract: record 0 has rules of its own.
+use borrow.Author.Needs.{needs}
+use Rattle.soundness.proofs.Ready.{ready-root, ready-child, at-root, at-child}
+use Rattle.soundness.proofs.record_rules.Statement.{statement}
+use Rattle.soundness.proofs.record_rules.Tie as tie
+
+pub record-rules-spec : {M : Type 1} → statement M
+record-rules-spec =
+    tie.close
+    (tie.spec
+    (λ c κs. ready-root _ _ _ (c .before .before .pre) (search needs))
+    (λ c. search (at-root, needs))
+    (λ c. search needs)
+    (λ c κs. ready-child _ _ _ (c .before .before .pre) (search needs))
+    (λ c. search (at-child, needs)))

@@ -1,0 +1,18 @@
+-- `soundness::root_rules` meets its contract: the name, then the next number.
+use borrow.Author.Needs.{needs}
+use Rattle.soundness.proofs.Rules.{root-high, root-next, root-kept}
+use Rattle.soundness.proofs.root_rules.Statement.{statement}
+use Rattle.soundness.proofs.root_rules.Tie as tie
+
+pub root-rules-spec : {M : Type 1} → statement M
+root-rules-spec =
+    tie.close
+    (tie.spec
+    (λ c. search needs)
+    (λ c. search needs)
+    (λ c. search (root-high, needs))
+    (λ c. search needs)
+    (λ c. search needs)
+    (λ c κs. search needs)
+    (λ c. search (root-next, needs))
+    (λ c. search (root-kept, needs)))

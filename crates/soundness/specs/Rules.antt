@@ -1,0 +1,59 @@
+-- The rules of a sound record, as one pass over a store tests them.
+use mathlib.Core.Bool.{Bool, true, false, cond, _&&_, _||_, not}
+use mathlib.Core.List.{List, [], _∷_}
+use mathlib.Core.Option.{Option, none, some}
+use mathlib.Core.Path.{_≡_}
+use Prim.Native.Nat.{ℕ, zero, suc, _+_, _*_, _<_, _≤_}
+use lib.ListN.{length, getD}
+use lib.Dec.{ltb, leb, eqb}
+use Rattle.model.specs.Basics.{last}
+use Rattle.model.specs.Limits.{maxDepth, recordSize}
+use Rattle.model.specs.Refusals.{Refusal, first}
+use Rattle.model.specs.Names.{Clues, isName, cluesOf, tableCheck}
+use Rattle.model.specs.Labels.{before, shared, isComponent}
+use Rattle.model.specs.Store.{Element, Rule, readElement, test, laidOut, leads, closed, sizeCheck, soundCheck, orderRule, parentRule, nameRule, lastRule, nextRule}
+use Rattle.records.specs.Records.{recordAt}
+
+-- a depth is at most 15, and 0 for record 0 only
+unfoldable pub depthFits : ℕ → ℕ → Bool
+depthFits r depth = leb depth maxDepth && cond (eqb r 0) (eqb depth 0) (ltb 0 depth)
+
+-- word w of a label of some depth: a used component is at most 65,534, an unused one 0
+unfoldable pub wordFits : ℕ → ℕ → ℕ → Bool
+wordFits depth w x = cond (leb w depth) (isComponent x) (eqb x 0)
+
+-- a next number is 0 if the clue is empty or the depth is 15
+unfoldable pub closedBy : List ℕ → ℕ → ℕ → Bool
+closedBy clue depth next = not (eqb (length clue) 0 || eqb depth maxDepth) || eqb next 0
+
+-- the first rule behind its layout that record 0 breaks
+unfoldable pub brokenRoot : Clues → Element → Option Rule
+brokenRoot cl e = test (isName (e .name)) nameRule (test (closed cl e) nextRule none)
+
+-- the first rule behind its layout that a later record breaks, after the previous record: its parent, if it stands earlier, is known from that one
+unfoldable pub brokenBelow : Clues → Element → Element → Element → Option Rule
+brokenBelow cl previous parent e =
+    test (before (previous .label) (e .label)) orderRule
+    (test (eqb (shared (previous .label) (e .label) + 1) (length (e .label))) parentRule
+    (test (leads (cl (parent .name)) (last (e .label)) (e .name)) nameRule
+    (test (ltb (last (e .label)) (parent .next)) lastRule (test (closed cl e) nextRule none))))
+
+-- the first rule behind its layout that record r of a slice breaks, where it stands below the record with the number `parent`
+unfoldable pub brokenAt : Clues → List ℕ → ℕ → ℕ → Option Rule
+brokenAt cl ws zero parent = brokenRoot cl (readElement (recordAt zero ws))
+brokenAt cl ws (suc r) parent = brokenBelow cl (readElement (recordAt r ws)) (readElement (recordAt parent ws)) (readElement (recordAt (suc r) ws))
+
+-- the checks of table, sizes and records, 22, 18, 19, in this order
+unfoldable pub storeCheck : List (List ℕ) → List ℕ → ℕ → Option Refusal
+storeCheck rows ws count = first (tableCheck rows ∷ sizeCheck (length ws) count ∷ soundCheck (cluesOf rows) count ws ∷ [])
+
+-- record r is laid out as a label of a depth that fits it
+abbrev pub Laid : List ℕ → ℕ → Type 0
+Laid ws r = (depthFits r (getD ws (r * recordSize) 0) ≡ true) × (laidOut (recordAt r ws) ≡ true)
+
+-- record r can be tested behind its layout: the records before it have labels, and it would stand below one of them
+pub record Ready (ws : List ℕ) (r parent : ℕ) : Type 0 where
+  pub room : r * recordSize + recordSize ≤ length ws
+  pub laid : Laid ws r
+  pub earlier : parent ≤ r
+  pub shallow : (q : ℕ) → q < r → getD ws (q * recordSize) 0 ≤ maxDepth

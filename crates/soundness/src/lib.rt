@@ -1,0 +1,248 @@
+// Soundness: the first record of a store that breaks a rule, found in one pass.
+use labels::Label;
+use labels::shared;
+use names::Child;
+use names::MAX_NAME;
+use names::Table;
+use names::child_of;
+use names::clue_len;
+use names::table_check;
+use records::Store;
+use records::label_at;
+use refusals::Refusal;
+use refusals::Verdict;
+use refusals::refuse;
+ghost use mathlib.Core.Path.{_≡_};
+ghost use mathlib.Core.List.{[]};
+ghost use Prim.Native.Nat.{_+_, _*_, _<_, _≤_};
+ghost use lib.ListN.{length, getD};
+ghost use Rattle.model.specs.Names.{cluesOf};
+ghost use Rattle.model.specs.Labels as labels;
+ghost use Rattle.model.specs.Store as model;
+ghost use Rattle.refusals.specs.Answers.{verdictOf};
+ghost use Rattle.records.specs.Records.{recordAt};
+ghost use Rattle.soundness.specs.Rules.{Ready, closedBy, depthFits, wordFits, brokenRoot, brokenBelow, brokenAt, storeCheck};
+ghost use Rattle.soundness.specs.Answers.{Numbered, checkOf, soundnessOf};
+
+// The rules of a sound record, in order.
+pub enum Rule {
+    Layout,
+    Order,
+    Parent,
+    Name,
+    Last,
+    Next,
+}
+
+// What the rules say of a record.
+pub enum Check {
+    Kept,
+    Broken(Rule),
+}
+
+// What they say of a store: sound, or the first rule broken and the record's place.
+pub enum Soundness {
+    Sound,
+    Broken(Rule, usize),
+}
+
+// The number that the paper gives a rule.
+fn number_of(rule: Rule) -> u8
+    ensures { λ r. ⌜ Numbered rule r ⌝ }
+{
+    match rule {
+        Rule::Layout => Refusal::UNSOUND,
+        Rule::Order => Refusal::UNSOUND,
+        Rule::Parent => Refusal::UNSOUND,
+        Rule::Name => Refusal::UNSOUND,
+        Rule::Last => Refusal::UNSOUND,
+        Rule::Next => Refusal::UNSOUND,
+    }
+}
+
+// A depth is at most 15, and 0 for record 0 only.
+fn depth_fits(r: usize, depth: usize) -> bool
+    ensures { λ b. ⌜ b ≡ depthFits r depth ⌝ }
+{
+    if Label::MAX_DEPTH < depth {
+        return false;
+    }
+    if r == 0 {
+        return depth == 0;
+    }
+    0 < depth
+}
+
+// A used component is at most 65,534, an unused one 0.
+fn word_fits(depth: usize, w: usize, word: u16) -> bool
+    ensures { λ b. ⌜ b ≡ wordFits depth w word ⌝ }
+{
+    if w <= depth {
+        return word <= Label::MAX_COMPONENT;
+    }
+    word == 0
+}
+
+// A next number is 0 if the clue is empty or the depth is 15.
+fn closed(table: &Table, name: usize, depth: usize, next: u16) -> bool
+    ensures { λ b. ⌜ b ≡ closedBy (cluesOf (now (table .entry)) name) depth next ⌝ }
+{
+    if next == 0 {
+        return true;
+    }
+    if depth == Label::MAX_DEPTH {
+        return false;
+    }
+    clue_len(table, name) != 0
+}
+
+// A component leads from a parent's name to a name.
+fn leads(table: &Table, parent: usize, component: u16, name: u16) -> bool
+    ensures { λ b. ⌜ b ≡ model.leads (cluesOf (now (table .entry)) parent) component name ⌝ }
+{
+    let Child::Name(c) = child_of(table, parent, component) else {
+        return false;
+    };
+    c as u16 == name
+}
+
+// Label order, by the part that two labels share.
+fn ordered(l: &[u16], m: &[u16], s: usize) -> bool
+    requires { ⌜ s ≡ labels.shared (now l) (now m) ⌝ }
+    ensures { λ b. ⌜ b ≡ labels.before (now (l .entry)) (now (m .entry)) ⌝ }
+{
+    if m.len() <= s {
+        return false;
+    }
+    if l.len() <= s {
+        return true;
+    }
+    l[s] < m[s]
+}
+
+// The rules of record 0 behind its layout.
+fn root_rules(table: &Table, store: &[u16]) -> Check
+    requires { ⌜ (20 ≤ length (now store)) × (getD (now store) 0 0 ≡ 0) ⌝ }
+    ensures { λ k. ⌜ k ≡ checkOf (brokenRoot (cluesOf (now (table .entry))) (model.readElement (recordAt 0 (now (store .entry))))) ⌝ }
+{
+    let name = store[Store::NAME];
+    if (MAX_NAME as u16) < name {
+        return Check::Broken(Rule::Name);
+    }
+    if !closed(table, name as usize, 0, store[Store::NEXT]) {
+        return Check::Broken(Rule::Next);
+    }
+    Check::Kept
+}
+
+// The rules of a later record behind its layout, where it stands below the record with the number `parent`.
+fn child_rules(table: &Table, store: &[u16], r: usize, parent: usize) -> Check
+    requires { ⌜ (r * 20 + 40 ≤ length (now store)) × (parent * 20 + 20 ≤ length (now store)) × (getD (now store) (r * 20) 0 ≤ 15) × (getD (now store) ((r + 1) * 20) 0 ≤ 15) ⌝ }
+    ensures { λ k. ⌜ k ≡ checkOf (brokenBelow (cluesOf (now (table .entry))) (model.readElement (recordAt r (now (store .entry)))) (model.readElement (recordAt parent (now (store .entry)))) (model.readElement (recordAt (r + 1) (now (store .entry))))) ⌝ }
+{
+    let previous = label_at(store, r);
+    let label = label_at(store, r + 1);
+    let s = shared(previous, label);
+    if !ordered(previous, label, s) {
+        return Check::Broken(Rule::Order);
+    }
+    if s + 1 != label.len() {
+        return Check::Broken(Rule::Parent);
+    }
+    let last = label[s];
+    let at = (r + 1) * Store::RECORD_WORDS;
+    let up = parent * Store::RECORD_WORDS;
+    let name = store[at + Store::NAME];
+    if !leads(table, store[up + Store::NAME] as usize, last, name) {
+        return Check::Broken(Rule::Name);
+    }
+    if store[up + Store::NEXT] <= last {
+        return Check::Broken(Rule::Last);
+    }
+    if !closed(table, name as usize, s + 1, store[at + Store::NEXT]) {
+        return Check::Broken(Rule::Next);
+    }
+    Check::Kept
+}
+
+// The rules of record r behind its layout.
+fn record_rules(table: &Table, store: &[u16], r: usize, parent: usize) -> Check
+    requires { ⌜ Ready (now store) r parent ⌝ }
+    ensures { λ k. ⌜ k ≡ checkOf (brokenAt (cluesOf (now (table .entry))) (now (store .entry)) r parent) ⌝ }
+{
+    if r == 0 {
+        return root_rules(table, store);
+    }
+    child_rules(table, store, r - 1, parent)
+}
+
+// The first record that breaks a rule, read from the front.
+pub fn first_fault(table: &Table, store: &[u16], count: usize) -> Soundness
+    requires { ⌜ count * 20 ≤ length (now store) ⌝ }
+    ensures { λ k. ⌜ k ≡ soundnessOf (model.fault (cluesOf (now (table .entry))) [] (model.records count (now (store .entry)))) ⌝ }
+{
+    let mut found = Soundness::Sound;
+    // The record that an element of each depth would stand below.
+    let mut parents = [0usize; 17];
+    let mut r: usize = 0;
+    'records: while r < count {
+        let at = r * Store::RECORD_WORDS;
+        let depth = store[at] as usize;
+        if !depth_fits(r, depth) {
+            found = Soundness::Broken(Rule::Layout, r);
+            break 'records;
+        }
+        let mut w: usize = 1;
+        while w < Label::WORDS {
+            if !word_fits(depth, w, store[at + w]) {
+                found = Soundness::Broken(Rule::Layout, r);
+                break 'records;
+            }
+            w += 1;
+        }
+        let check = record_rules(table, store, r, parents[depth]);
+        if let Check::Broken(rule) = check {
+            found = Soundness::Broken(rule, r);
+            break 'records;
+        }
+        parents[depth + 1] = r;
+        r += 1;
+    }
+    found
+}
+
+// The check of the records in use, 19.
+fn check_records(table: &Table, store: &[u16], count: usize) -> Verdict
+    requires { ⌜ count * 20 ≤ length (now store) ⌝ }
+    ensures { λ v. ⌜ v ≡ verdictOf (model.soundCheck (cluesOf (now (table .entry))) count (now (store .entry))) ⌝ }
+{
+    let found = first_fault(table, store, count);
+    let Soundness::Broken(rule, place) = found else {
+        return Verdict::Passed;
+    };
+    refuse(number_of(rule), place)
+}
+
+// The checks of a lent table and store: 22, 18, 19.
+pub fn store_check(table: &Table, store: &[u16], count: usize) -> Verdict
+    ensures { λ v. ⌜ v ≡ verdictOf (storeCheck (now (table .entry)) (now (store .entry)) count) ⌝ }
+{
+    let Verdict::Passed = table_check(table) else {
+        return refuse(Refusal::BAD_TABLE, 0);
+    };
+    let size = Store {
+        words: store.len(),
+        count,
+    };
+    let Verdict::Passed = size.check_size() else {
+        return refuse(Refusal::STORE_SIZE, 0);
+    };
+    check_records(table, store, count)
+}
+
+// The check of a store: 22, 18, 19.
+pub fn check_store(table: Table, store: &[u16], count: usize) -> Verdict
+    ensures { λ v. ⌜ v ≡ verdictOf (storeCheck table (now (store .entry)) count) ⌝ }
+{
+    store_check(&table, store, count)
+}
