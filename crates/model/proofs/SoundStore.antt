@@ -94,7 +94,7 @@ test-rest false r o e = absurd (Option·some-ne-none r e)
 
 module _ (r : List ℕ) (laid : T (laidOut r)) where
   -- the label of a record that is laid out as it must be is good
-  label-good : GoodLabel (readElement r .label)
+  pub label-good : GoodLabel (readElement r .label)
   unfolding laidOut readElement
   label-good = subst GoodLabel (labelOf-take r (laid-depth r laid)) (labelOf-good (take labelSize r) laid)
 

@@ -10,14 +10,14 @@ use Rattle.model.specs.Store.{Element, readElement, records, elements}
 use Rattle.records.specs.Records.{recordAt}
 
 -- record r of what stands behind record 0 is record r + 1
-record-behind : (r : ℕ) (ws : List ℕ) → recordAt r (drop recordSize ws) ≡ recordAt (suc r) ws
+pub record-behind : (r : ℕ) (ws : List ℕ) → recordAt r (drop recordSize ws) ≡ recordAt (suc r) ws
 unfolding recordAt
 record-behind r ws =
     let e : recordSize + r * recordSize ≡ suc r * recordSize = omega arith in
     ap (take recordSize) (drop-drop (r * recordSize) recordSize ws ∙ ap (λ n. drop n ws) e)
 
 -- record 0 is the first
-record-first : (ws : List ℕ) → take recordSize ws ≡ recordAt 0 ws
+pub record-first : (ws : List ℕ) → take recordSize ws ≡ recordAt 0 ws
 unfolding recordAt
 record-first ws = refl
 

@@ -177,7 +177,7 @@ fn record_rules(table: &Table, store: &[u16], r: usize, parent: usize) -> Check
 }
 
 // The first record that breaks a rule, read from the front.
-pub fn first_fault(table: &Table, store: &[u16], count: usize) -> Soundness
+fn first_fault(table: &Table, store: &[u16], count: usize) -> Soundness
     requires { ⌜ count * 20 ≤ length (now store) ⌝ }
     ensures { λ k. ⌜ k ≡ soundnessOf (model.fault (cluesOf (now (table .entry))) [] (model.records count (now (store .entry)))) ⌝ }
 {

@@ -1,0 +1,97 @@
+-- What cutting answers and leaves, for each way out of its code.
+use Prim.Native.Nat.{ℕ, _*_, _/_, _<_, _≤_}
+use mathlib.Core.Path.{_≡_, refl, _∙_}
+use mathlib.Core.Bool.{Bool, true, false, not, _||_}
+use mathlib.Core.List.{List, [], _∷_, _++_}
+use mathlib.Core.Option.{Option, none, some}
+use native.Mathlib.Omega.{arith}
+use lib.ListN.{length}
+use lib.Dec.{leb, eqb}
+use borrow.Author.Tests.{le-leb, lt-leb, not-true, not-false}
+use Rattle.model.specs.Basics.{elim?, over}
+use Rattle.model.specs.Limits.{anyName, labelSize}
+use Rattle.model.specs.Refusals.{Refusal, refuse, check, first, nameAsked, shortOutput}
+use Rattle.model.specs.Names.{isName}
+use Rattle.model.specs.Twigs.{nameCheck}
+use Rattle.model.specs.Matches.{labelsWords}
+use Rattle.model.specs.Store.{elements}
+use Rattle.model.specs.Cutting as model
+use Rattle.model.proofs.Refusals.{first-last}
+use Rattle.refusals.specs.Answers.{verdictOf}
+use Rattle.refusals.specs.declared.Refusal as declared
+use Rattle.refusals.specs.declared.Verdict.{Verdict}
+use Rattle.refusals.specs.declared.Verdict.the-variants as verdict
+use Rattle.refusals.proofs.Verdicts.{passed-none}
+use Rattle.soundness.specs.Rules.{storeCheck}
+use Rattle.cutting.specs.declared.Listing.{Listing}
+use Rattle.cutting.specs.Answers.{cutting, refusedBy, listingOf}
+use Rattle.cutting.proofs.Sound.{store-laid, stream-words}
+
+-- checks one after the other
+first-append : (os rs : List (Option Refusal)) → first (os ++ rs) ≡ elim? (first os) (first rs) some
+unfolding first elim?
+first-append [] rs = refl
+first-append (none ∷ os) rs = first-append os rs
+first-append (some r ∷ os) rs = refl
+
+-- there is room for the words of a stream
+pub room-held : {n k size : ℕ} → n ≡ k → n ≤ size / labelSize → labelSize * k ≤ size
+room-held e h = omega arith
+
+module _ (rows : List (List ℕ)) (ws : List ℕ) (count want : ℕ) (out : List ℕ) where
+  -- the words of the stream
+  abbrev words : List ℕ
+  words = labelsWords (model.stream want (elements count ws))
+
+  -- the store's checks come first
+  store-first : model.cutRefusal rows ws count want out ≡ elim? (storeCheck rows ws count) (first (nameCheck want 0 ∷ model.roomCheck words out ∷ [])) some
+  unfolding model.cutRefusal storeCheck
+  store-first = first-append _ (nameCheck want 0 ∷ model.roomCheck words out ∷ [])
+
+  -- a refused call leaves the output
+  refused-by : (r : Refusal) {v : Verdict} {a : Listing} → model.cutRefusal rows ws count want out ≡ some r → v ≡ verdictOf (some r) → a ≡ refusedBy v →
+      cutting a out ≡ listingOf (model.cut rows ws count want out)
+  unfolding model.cut model.listed
+  refused-by r e f g = rw (e, g, f)
+
+  module _ {v : Verdict} (checked : v ≡ verdictOf (storeCheck rows ws count)) where
+    -- a table or a store that is ruled out
+    pub store-refused : {x : declared.Refusal} {a : Listing} → v ≡ verdict.Refused x → a ≡ refusedBy v → cutting a out ≡ listingOf (model.cut rows ws count want out)
+    unfolding elim?
+    store-refused {x} {a} f g = go (storeCheck rows ws count) checked store-first
+      where
+        go : (o : Option Refusal) → v ≡ verdictOf o →
+            model.cutRefusal rows ws count want out ≡ elim? o (first (nameCheck want 0 ∷ model.roomCheck words out ∷ [])) some →
+            cutting a out ≡ listingOf (model.cut rows ws count want out)
+        go none p e = absurd (let z : _≡_ {A = ℕ} 0 1 = cc in omega arith)
+        go (some r) p e = refused-by r e p g
+
+    module _ (good : v ≡ verdict.Passed) {b : Bool} (is : b ≡ (isName want || eqb want anyName)) where
+      -- behind the store's checks comes the name's
+      name-next : model.cutRefusal rows ws count want out ≡ first (check b nameAsked 0 ∷ model.roomCheck words out ∷ [])
+      unfolding nameCheck elim?
+      name-next = store-first ∙ rw (passed-none (storeCheck rows ws count) checked good, is)
+
+      -- a name that may not be asked for
+      pub name-refused : {u : Verdict} {a : Listing} → not b ≡ true → u ≡ verdictOf (refuse nameAsked 0) → a ≡ refusedBy u →
+          cutting a out ≡ listingOf (model.cut rows ws count want out)
+      unfolding check first
+      name-refused e = refused-by _ (name-next ∙ rw (not-true b e))
+
+      module _ (e : not b ≡ false) {n : ℕ} (counted : n ≡ length (model.stream want (elements count ws))) where
+        -- and then the output's
+        room-next : model.cutRefusal rows ws count want out ≡ check (leb (labelSize * n) (length out)) shortOutput 0
+        unfolding check first model.roomCheck
+        room-next = name-next ∙ rw (not-false b e, stream-words want count ws (store-laid rows ws count checked good), ← counted) (first-last _)
+
+        -- an output that is too short
+        pub room-refused : {u : Verdict} {a : Listing} → length out / labelSize < n → u ≡ verdictOf (refuse shortOutput 0) → a ≡ refusedBy u →
+            cutting a out ≡ listingOf (model.cut rows ws count want out)
+        unfolding check
+        room-refused h = refused-by _ (room-next ∙ rw (lt-leb (labelSize * n) (length out) (omega arith)))
+
+        -- the stream written
+        pub cut-done : {left : List ℕ} → n ≤ length out / labelSize → left ≡ over words out →
+            cutting (record { verdict = verdict.Passed; count = n }) left ≡ listingOf (model.cut rows ws count want out)
+        unfolding check model.cut model.listed
+        cut-done h f = rw (room-next, le-leb (labelSize * n) (length out) (omega arith), f, counted)

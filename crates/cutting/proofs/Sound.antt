@@ -1,0 +1,68 @@
+-- What a store that passed its checks gives cutting: room for its records, and labels laid out in them.
+use Prim.Native.Nat.{ℕ, zero, suc, _*_, _<_, _≤_}
+use mathlib.Core.Path.{_≡_, sym, subst, _∙_}
+use mathlib.Core.List.{List, [], _∷_}
+use mathlib.Core.Option.{none}
+use native.Mathlib.Omega.{arith}
+use lib.ListN.{length, take, drop}
+use lib.Dec.{T}
+use Rattle.model.specs.Basics.{_∈_}
+use Rattle.model.specs.Limits.{maxDepth, labelSize, recordSize}
+use Rattle.model.specs.Names.{Clues, cluesOf}
+use Rattle.model.specs.Matches.{labelsWords}
+use Rattle.model.specs.Store.{Element, readElement, records, elements, laidOut, fault}
+use Rattle.model.specs.Cutting.{stream}
+use Rattle.model.proofs.Faults.{fault-cons, sound-check}
+use Rattle.model.proofs.Lists.{member-at}
+use Rattle.model.proofs.MatchWords.{length-labelsWords}
+use Rattle.model.proofs.Refusals.{first-none}
+use Rattle.model.proofs.Relaid.{sound-laid}
+use Rattle.model.proofs.Sizes.{size-iff, length-elements-read}
+use Rattle.model.proofs.SoundStore.{label-good}
+use Rattle.model.proofs.StreamWords.{for-stream}
+use Rattle.refusals.specs.Answers.{verdictOf}
+use Rattle.refusals.specs.declared.Verdict.{Verdict}
+use Rattle.refusals.specs.declared.Verdict.the-variants as verdict
+use Rattle.refusals.proofs.Verdicts.{passed-none}
+use Rattle.records.specs.Records.{recordAt}
+use Rattle.records.proofs.Elements.{record-first, record-behind, element-at}
+use Rattle.soundness.specs.Rules.{storeCheck}
+use Rattle.cutting.specs.Words.{Laid}
+
+-- sound records are laid out as they must be
+sound-records : (cl : Clues) (count : ℕ) (done : List Element) (ws : List ℕ) → fault cl done (records count ws) ≡ none → Laid count ws
+unfolding records
+sound-records cl zero done ws e r h = absurd (omega arith)
+sound-records cl (suc n) done ws e zero h =
+    subst (λ rec. T (laidOut rec)) (record-first ws) (sound-laid cl done (take recordSize ws) (fault-cons cl done _ _ e .0))
+sound-records cl (suc n) done ws e (suc r) h =
+    subst (λ rec. T (laidOut rec)) (record-behind r ws)
+    (sound-records cl n (readElement (take recordSize ws) ∷ done) (drop recordSize ws) (fault-cons cl done _ _ e .1) r (omega arith))
+
+module _ (rows : List (List ℕ)) (ws : List ℕ) (count : ℕ) {v : Verdict} (checked : v ≡ verdictOf (storeCheck rows ws count)) (good : v ≡ verdict.Passed) where
+  -- the store has room for the records in use
+  pub store-held : recordSize * count ≤ length ws
+  unfolding storeCheck
+  store-held = size-iff (length ws) count .0 (first-none _ _ (first-none _ _ (passed-none _ checked good) .1) .0) .held
+
+  -- each of which is laid out as it must be
+  pub store-laid : Laid count ws
+  unfolding storeCheck
+  store-laid =
+      let rest = first-none _ _ (first-none _ _ (passed-none _ checked good) .1) .1 in
+      sound-records (cluesOf rows) count [] ws (sound-check (cluesOf rows) count ws .0 (first-none _ _ rest .0))
+
+-- records that are laid out have labels that fit their words
+laid-fit : (count : ℕ) (ws : List ℕ) → Laid count ws → (e : Element) → e ∈ elements count ws → length (e .label) ≤ maxDepth
+laid-fit count ws laid e m =
+    let d : Element = readElement [] in
+    let (r, h, at) = member-at d (elements count ws) e .0 m in
+    let inside : r < count = omega (arith, length-elements-read count ws) in
+    subst (λ (e : Element). length (e .label) ≤ maxDepth) (sym (element-at count ws r d inside) ∙ at) (label-good (recordAt r ws) (laid r inside) .shallow)
+
+-- a stream of such records has sixteen words for each label
+pub stream-words : (want count : ℕ) (ws : List ℕ) → Laid count ws →
+    length (labelsWords (stream want (elements count ws))) ≡ labelSize * length (stream want (elements count ws))
+stream-words want count ws laid =
+    length-labelsWords (stream want (elements count ws))
+    (for-stream (λ l. length l ≤ maxDepth) want (elements count ws) (λ e m a. laid-fit count ws laid e m))

@@ -1,0 +1,45 @@
+-- A stream written record by record: what holds after each turn and at the end of the loop.
+use Prim.Native.Nat.{ℕ, _+_, _*_, _<_, _≤_}
+use mathlib.Core.Path.{_≡_, refl, sym, ap, _∙_}
+use mathlib.Core.Bool.{Bool, true, false}
+use mathlib.Core.List.{List}
+use native.Mathlib.Omega.{arith}
+use lib.ListN.{length, take}
+use Rattle.model.specs.Basics.{over}
+use Rattle.model.specs.Limits.{labelSize}
+use Rattle.model.specs.Matches.{asks, labelsWords}
+use Rattle.model.specs.Store.{readElement, elements}
+use Rattle.model.specs.Cutting.{stream}
+use Rattle.model.proofs.Relaid.{label-back}
+use Rattle.model.proofs.SoundStore.{label-good}
+use Rattle.records.specs.Records.{recordAt}
+use Rattle.cutting.specs.Words.{Laid, labelPut}
+use Rattle.cutting.proofs.Streams.{streamFrom, stream-end, stream-taken, stream-left, count-taken}
+use Rattle.cutting.proofs.Outputs.{written, written-end, written-more}
+
+module _ (want count : ℕ) (ws out₀ : List ℕ) (r n : ℕ) (out : List ℕ) where
+  module _ (inv : over (labelsWords (stream want (elements count ws))) out₀ ≡ written (streamFrom want count ws r) n out) where
+    -- at the end the stream is written
+    pub write-end : count ≤ r → out ≡ over (labelsWords (stream want (elements count ws))) out₀
+    write-end h = sym (inv ∙ ap (λ ls. written ls n out) (stream-end want count ws r h) ∙ written-end n out)
+
+    -- a record that is not asked for
+    pub write-left : r < count → {b : Bool} → b ≡ asks want (readElement (recordAt r ws) .name) → b ≡ false → {m : ℕ} {next : List ℕ} → m ≡ n → next ≡ out →
+        over (labelsWords (stream want (elements count ws))) out₀ ≡ written (streamFrom want count ws (r + 1)) m next
+    write-left h is e p q = inv ∙ rw (p, q) (ap (λ ls. written ls n out) (stream-left want count ws r h is e))
+
+  module _ (h : r < count) {b : Bool} (is : b ≡ asks want (readElement (recordAt r ws) .name)) (e : b ≡ true)
+      (counted : n + length (streamFrom want count ws r) ≡ length (stream want (elements count ws)))
+      (room : labelSize * length (stream want (elements count ws)) ≤ length out₀) (same : length out ≡ length out₀) where
+    -- there is room for the label of a record that is asked for
+    pub write-room : labelSize * (n + 1) ≤ length out
+    write-room = omega (arith, count-taken want count ws r n counted h is {m = n + 1} e refl)
+
+    -- which is written
+    pub write-taken : over (labelsWords (stream want (elements count ws))) out₀ ≡ written (streamFrom want count ws r) n out → Laid count ws →
+        {m : ℕ} {next left : List ℕ} → m ≡ n + 1 → next ≡ left → left ≡ labelPut out n (take labelSize (recordAt r ws)) →
+        over (labelsWords (stream want (elements count ws))) out₀ ≡ written (streamFrom want count ws (r + 1)) m next
+    write-taken inv laid p q f =
+        inv ∙ ap (λ ls. written ls n out) (stream-taken want count ws r h is e) ∙
+        written-more (readElement (recordAt r ws) .label) n out (label-good (recordAt r ws) (laid r h) .shallow) write-room (streamFrom want count ws (r + 1)) ∙
+        rw (p, q, f, label-back (recordAt r ws) (laid r h))
