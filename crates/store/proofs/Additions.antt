@@ -1,0 +1,64 @@
+-- What the addition of a child answers and leaves, for each way out of its code: 13, or the child put in.
+use Prim.Native.Nat.{ℕ, _+_, _*_, _<_, _≤_}
+use mathlib.Core.Path.{_≡_, ap, _∙_}
+use mathlib.Core.Bool.{true}
+use mathlib.Core.List.{List, [], _∷_, _++_}
+use mathlib.Core.Option.{some}
+use lib.ListN.{length, getD, set, length-set}
+use Rattle.model.specs.Basics.{elim?}
+use Rattle.model.specs.Limits.{maxDepth, recordSize, nextWord}
+use Rattle.model.specs.Labels.{Label, labelOf, labelWords, isLabel}
+use Rattle.model.specs.Store.{elementWords, readElement, elements}
+use Rattle.model.specs.Updates.{spaceCheck}
+use Rattle.model.proofs.Sizes.{space-iff}
+use Rattle.refusals.specs.Answers.{verdictOf}
+use Rattle.refusals.specs.declared.Refusal.{Refusal as Shown}
+use Rattle.refusals.specs.declared.Verdict.{Verdict}
+use Rattle.refusals.specs.declared.Verdict.the-variants as verdict
+use Rattle.refusals.proofs.Verdicts.{passed-none}
+use Rattle.records.specs.Records.{recordAt}
+use Rattle.moving.specs.Moves.{inserted}
+use Rattle.lookup.specs.Places.{placeAt, passes, leading}
+use Rattle.store.specs.declared.Entry.{Entry}
+use Rattle.store.specs.Answers.{entered, refusedEntry, childWritten, childAdded}
+use Rattle.store.proofs.InUse.{label-high}
+use Rattle.store.proofs.Children.{label-depth}
+use Rattle.store.proofs.Checks.{verdict-refused}
+
+module _ (ws : List ℕ) (i f : ℕ) where
+  -- a word written changes no length
+  pub written-length : {n : ℕ} → n ≡ length (set ws i f) → n ≡ length ws
+  written-length e = e ∙ length-set ws i f
+
+  -- and leaves the room there was
+  pub written-room : {n : ℕ} → n ≤ length ws → n ≤ length (set ws i f)
+  written-room h = rw (length-set ws i f) h
+
+-- a label whose record is above the deepest level is above it
+pub depth-high : (count : ℕ) (ws lw : List ℕ) (a : ℕ) → isLabel lw ≡ true → placeAt (labelOf lw) (elements count ws) ≡ some a →
+    length (readElement (recordAt a ws) .label) < maxDepth → getD lw 0 0 < maxDepth
+depth-high count ws lw a good at h = rw (label-depth lw good) (label-high count ws (labelOf lw) a at h)
+
+-- the record put in behind the subtree
+pub child-written : (ws : List ℕ) (count a : ℕ) (l : Label) (x : ℕ) (rec : List ℕ) {end : ℕ} {ws′ : List ℕ} → end ≡ leading (passes true l) (elements count ws) →
+    ws′ ≡ inserted (set ws (a * recordSize + nextWord) (x + 1)) end count rec → ws′ ≡ childWritten ws count a l x rec
+child-written ws count a l x rec e f = f ∙ ap (λ n. inserted (set ws (a * recordSize + nextWord) (x + 1)) n count rec) e
+
+module _ (ws : List ℕ) (count : ℕ) {v : Verdict} (checked : v ≡ verdictOf (spaceCheck (length ws) count)) where
+  -- no free record
+  pub add-refused : (a : ℕ) (l : Label) (x name p0 p1 : ℕ) {s : Shown} {r : Entry} → v ≡ verdict.Refused s → r ≡ refusedEntry v count →
+      entered r ws ≡ childAdded ws count a l x name p0 p1
+  unfolding childAdded elim?
+  add-refused a l x name p0 p1 f g = let (r, e) = verdict-refused (spaceCheck (length ws) count) checked f in rw (g, checked, e)
+
+  module _ (free : v ≡ verdict.Passed) where
+    -- a free record
+    pub add-room : recordSize * (count + 1) ≤ length ws
+    add-room = space-iff (length ws) count .0 (passed-none (spaceCheck (length ws) count) checked free) .0
+
+    -- the child put in
+    pub add-done : (a : ℕ) (lw : List ℕ) (x name p0 p1 : ℕ) {label lent rec l shown ws′ : List ℕ} → label ≡ labelWords (labelOf lw ++ (x ∷ [])) →
+        lent ≡ label → rec ≡ lent ++ (name ∷ 0 ∷ p0 ∷ p1 ∷ []) → l ≡ labelOf lw → shown ≡ rec → ws′ ≡ childWritten ws count a l x shown →
+        entered (record { verdict = verdict.Passed; count = count + 1; label = label }) ws′ ≡ childAdded ws count a (labelOf lw) x name p0 p1
+    unfolding childAdded elim? elementWords
+    add-done a lw x name p0 p1 i j k m n o = rw (o, n, m, k, j, i, passed-none (spaceCheck (length ws) count) checked free)

@@ -1,0 +1,97 @@
+-- The records in use of a sound store: their words, and the element that a label's place reads as.
+use Prim.Native.Nat.{ℕ, zero, suc, _+_, _-_, _*_, _<_, _≤_}
+use mathlib.Core.Path.{_≡_, sym, ap, subst, _∙_}
+use mathlib.Core.Bool.{true}
+use mathlib.Core.List.{List}
+use mathlib.Core.Option.{some, none}
+use native.Mathlib.Omega.{arith}
+use lib.ListN.{length, getD, take, drop}
+use lib.Seq.{take-add, drop-at, length-take-le}
+use Rattle.model.specs.Basics.{elim?}
+use Rattle.model.specs.Limits.{maxDepth, recordSize}
+use Rattle.model.specs.Names.{Clues}
+use Rattle.model.specs.Labels.{Label}
+use Rattle.model.specs.Store.{Element, storeWords, readElement, records, elements, find, elementAt, soundCheck}
+use Rattle.model.proofs.Lists.{nowhere}
+use Rattle.model.proofs.Sizes.{length-elements-read}
+use Rattle.model.proofs.Faults.{sound-check}
+use Rattle.model.proofs.Words.{Fit}
+use Rattle.model.proofs.Relaid.{relaid}
+use Rattle.model.proofs.SoundStore.{sound-elements}
+use Rattle.records.specs.Records.{recordAt}
+use Rattle.records.proofs.Elements.{element-at}
+use Rattle.lookup.specs.Places.{placeAt, passes, leading, Searchable}
+use Rattle.lookup.proofs.Places.{leading-most, place-inside, find-place}
+
+-- the records in use behind place b
+pub records-behind : (ws : List ℕ) (b count : ℕ) → b ≤ count → recordSize * count ≤ length ws →
+    drop (recordSize * b) (take (recordSize * count) ws) ≡ take (recordSize * (count - b)) (drop (recordSize * b) ws)
+records-behind ws b count h room =
+    let e : recordSize * count ≡ recordSize * b + recordSize * (count - b) = omega arith in
+    ap (λ n. drop (recordSize * b) (take n ws)) e ∙ ap (drop (recordSize * b)) (take-add (recordSize * b) (recordSize * (count - b)) ws) ∙
+    drop-at (take (recordSize * b) ws) _ (recordSize * b) (length-take-le (recordSize * b) ws (omega arith))
+
+-- a label's subtree ends among the records in use
+pub subtree-end : (count : ℕ) (ws : List ℕ) (l : Label) → leading (passes true l) (elements count ws) ≤ count
+subtree-end count ws l = omega (arith, leading-most (passes true l) (elements count ws), length-elements-read count ws)
+
+-- and so does what is said to be its end
+pub end-used : (count : ℕ) (ws : List ℕ) (l : Label) {end : ℕ} → end ≡ leading (passes true l) (elements count ws) → end ≤ count
+end-used count ws l e = rw e (subtree-end count ws l)
+
+module _ (cl : Clues) (ws : List ℕ) where
+  -- the labels of a sound store fit their records
+  pub sound-fit : (count : ℕ) → soundCheck cl count ws ≡ none → Fit (elements count ws)
+  unfolding elements records
+  sound-fit zero sound e m = absurd (nowhere m)
+  sound-fit (suc n) sound e m = sound-elements cl n ws (sound-check cl (suc n) ws .0 sound) .labelled e m .shallow
+
+  -- its records in use are the words of its elements
+  pub sound-words : (count : ℕ) → soundCheck cl count ws ≡ none → recordSize * count ≤ length ws → storeWords (elements count ws) ≡ take (recordSize * count) ws
+  sound-words count sound room = relaid cl count _ ws room (sound-check cl count ws .0 sound)
+
+-- no element is found where a label has no place
+pub find-absent : (count : ℕ) (ws : List ℕ) (l : Label) → placeAt l (elements count ws) ≡ none → find l (elements count ws) ≡ none
+unfolding elim?
+find-absent count ws l e = rw (find-place l (elements count ws) (elementAt l (elements count ws)), e)
+
+module _ (count : ℕ) (ws : List ℕ) (l : Label) (a : ℕ) (at : placeAt l (elements count ws) ≡ some a) where
+  -- the place is one of those in use
+  pub place-used : a < count
+  place-used = omega (arith, length-elements-read count ws, place-inside l (elements count ws) a (elementAt l (elements count ws)) at .0)
+
+  -- the element with a label stands at its place
+  element-found : (d : Element) → elementAt l (elements count ws) ≡ getD (elements count ws) a d
+  unfolding elementAt elim?
+  element-found d = rw (find-place l (elements count ws) d, at)
+
+  -- it is found as what the record there reads as
+  pub find-found : find l (elements count ws) ≡ some (readElement (recordAt a ws))
+  unfolding elim?
+  find-found =
+      let d = elementAt l (elements count ws) in
+      find-place l (elements count ws) d ∙ rw at (ap some (element-at count ws a d place-used))
+
+  -- so it is that
+  pub parent-read : elementAt l (elements count ws) ≡ readElement (recordAt a ws)
+  unfolding elementAt elim?
+  parent-read = rw find-found
+
+  -- and has the label
+  pub parent-label : elementAt l (elements count ws) .label ≡ l
+  parent-label =
+      let d = elementAt l (elements count ws) in
+      ap (λ (e : Element). e .label) (element-found d) ∙ place-inside l (elements count ws) a d at .1
+
+  -- so it is as deep as the record says
+  pub label-high : length (readElement (recordAt a ws) .label) < maxDepth → length l < maxDepth
+  label-high h = subst (λ m. length m < maxDepth) (ap (λ (e : Element). e .label) (sym parent-read) ∙ parent-label) h
+
+  module _ (can : Searchable count ws) where
+    -- its record is in the slice
+    pub record-inside : a * recordSize + recordSize ≤ length ws
+    record-inside = omega (arith, can .room, place-used)
+
+    -- and has a depth of at most 15
+    pub record-shallow : getD ws (a * recordSize) 0 ≤ maxDepth
+    record-shallow = can .shallow a place-used

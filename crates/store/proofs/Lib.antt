@@ -1,0 +1,12 @@
+pub mod Splices
+pub mod Raises
+pub mod InUse
+pub mod Entries
+pub mod Deletions
+pub mod NewStore
+pub mod Checks
+pub mod Gifts
+pub mod Children
+pub mod Additions
+pub mod DeletionAnswers
+pub mod EntryAnswers

@@ -1,0 +1,29 @@
+-- `store::delete` meets its contract: 22, 18, 19, 15, 14 and 9 in turn, else the subtree taken out.
+use borrow.Author.Needs.{needs}
+use Rattle.store.proofs.Checks.{found-at, call-searchable, call-label}
+use Rattle.store.proofs.DeletionAnswers.{delete-unchecked, delete-root, delete-absent, delete-done}
+use Rattle.store.proofs.delete.Statement.{statement}
+use Rattle.store.proofs.delete.Tie as tie
+
+pub delete-spec : {M : Type 1} → statement M
+delete-spec =
+    tie.close
+    (tie.spec
+    (λ c κs. search needs)
+    (λ c. search needs)
+    (λ c. search needs)
+    (λ c. search needs)
+    (λ c. search (delete-unchecked, needs))
+    (λ c κs. search (call-label, needs))
+    (λ c κs. search needs)
+    (λ c. search needs)
+    (λ c. search (delete-root, needs))
+    (λ c κs. search (call-searchable, needs))
+    (λ c. search needs)
+    (λ c. search needs)
+    (λ c κs. search needs)
+    (λ c. search needs)
+    (λ c. search (delete-absent, needs))
+    (λ c κs. (search (call-searchable, needs), search (found-at, needs)))
+    (λ c. search needs)
+    (λ c. search (delete-done, needs)))

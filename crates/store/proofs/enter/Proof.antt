@@ -1,0 +1,28 @@
+-- `store::enter` meets its contract: 22, 18, 19, 15 and 9 in turn, else what the parent answers.
+use borrow.Author.Needs.{needs}
+use Rattle.store.proofs.Checks.{found-label, call-searchable, call-label}
+use Rattle.store.proofs.EntryAnswers.{enter-unchecked, enter-absent, enter-done}
+use Rattle.store.proofs.enter.Statement.{statement}
+use Rattle.store.proofs.enter.Tie as tie
+
+pub enter-spec : {M : Type 1} → statement M
+enter-spec =
+    tie.close
+    (tie.spec
+    (λ c κs. search needs)
+    (λ c. search needs)
+    (λ c. search needs)
+    (λ c κs. search needs)
+    (λ c. search needs)
+    (λ c. search (enter-unchecked, needs))
+    (λ c κs. search (call-label, needs))
+    (λ c κs. search (call-searchable, needs))
+    (λ c. search needs)
+    (λ c. search needs)
+    (λ c κs. search needs)
+    (λ c κs. search needs)
+    (λ c. search needs)
+    (λ c. search (enter-absent, needs))
+    (λ c κs. (search (call-searchable, needs), search (call-label, needs), search (found-label, needs)))
+    (λ c. search needs)
+    (λ c. search (enter-done, needs)))

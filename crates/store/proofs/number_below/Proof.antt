@@ -1,0 +1,33 @@
+-- `store::number_below` meets its contract: 10, 11 and 12 in turn, else the number.
+use borrow.Author.Needs.{needs}
+use mir.Facts.{fits-widen}
+use Rattle.store.proofs.Gifts.{gift-absent, gift-deep, gift-none, gift-given}
+use Rattle.store.proofs.number_below.Statement.{statement}
+use Rattle.store.proofs.number_below.Tie as tie
+
+pub number-below-spec : {M : Type 1} → statement M
+number-below-spec =
+    tie.close
+    (tie.spec
+    (λ c. search needs)
+    (λ c. search needs)
+    (λ c. search needs)
+    (λ c. search needs)
+    (λ c. fits-widen tt (c .shared-slice-known2 .given _))
+    (λ c κs. search needs)
+    (λ c. search needs)
+    (λ c. search needs)
+    (λ c. search (gift-absent, needs))
+    (λ c. search needs)
+    (λ c. search needs)
+    (λ c. search needs)
+    (λ c. search (gift-deep, needs))
+    (λ c κs. search needs)
+    (λ c. search needs)
+    (λ c. search needs)
+    (λ c. search needs)
+    (λ c κs. search needs)
+    (λ c. search needs)
+    (λ c. search needs)
+    (λ c. search (gift-none, needs))
+    (λ c. search (gift-given, needs)))

@@ -1,0 +1,17 @@
+-- `store::remove_subtree` meets its contract: the records from the label's to the subtree's end taken out.
+use borrow.Author.Needs.{needs}
+use Rattle.store.proofs.InUse.{end-used}
+use Rattle.store.proofs.DeletionAnswers.{subtree-some, subtree-over, subtree-fewer, subtree-removed}
+use Rattle.store.proofs.remove_subtree.Statement.{statement}
+use Rattle.store.proofs.remove_subtree.Tie as tie
+
+pub remove-subtree-spec : {M : Type 1} → statement M
+remove-subtree-spec =
+    tie.close
+    (tie.spec
+    (λ c κs. search needs)
+    (λ c κs. search (subtree-some, end-used, needs))
+    (λ c. search (subtree-over, needs))
+    (λ c. search (subtree-fewer, needs))
+    (λ c. search needs)
+    (λ c. search (subtree-removed, needs)))

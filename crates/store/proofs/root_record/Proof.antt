@@ -1,0 +1,20 @@
+-- `store::root_record` meets its contract: three words of a row of zeros written.
+use borrow.Author.Needs.{needs}
+use Rattle.model.specs.Labels.{labelWords}
+use Rattle.model.specs.Store.{elementWords}
+use Rattle.store.proofs.root_record.Statement.{statement}
+use Rattle.store.proofs.root_record.Tie as tie
+
+pub root-record-spec : {M : Type 1} → statement M
+unfolding elementWords labelWords
+root-record-spec =
+    tie.close
+    (tie.spec
+    (λ c. search needs)
+    (λ c. search needs)
+    (λ c. search needs)
+    (λ c. search needs)
+    (λ c. search needs)
+    (λ c. search needs)
+    (λ c. search needs)
+    (λ c. search needs))

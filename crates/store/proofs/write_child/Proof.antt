@@ -1,0 +1,20 @@
+-- `store::write_child` meets its contract: the next number raised, the record put in behind the subtree.
+use borrow.Author.Needs.{needs}
+use Rattle.store.proofs.InUse.{end-used}
+use Rattle.store.proofs.Additions.{written-length, written-room, child-written}
+use Rattle.store.proofs.write_child.Statement.{statement}
+use Rattle.store.proofs.write_child.Tie as tie
+
+pub write-child-spec : {M : Type 1} → statement M
+write-child-spec =
+    tie.close
+    (tie.spec
+    (λ c κs. search needs)
+    (λ c. search needs)
+    (λ c. search needs)
+    (λ c. search needs)
+    (λ c. search needs)
+    (λ c. search needs)
+    (λ c κs. search (end-used, written-room, needs))
+    (λ c. search (written-length, needs))
+    (λ c. search (child-written, needs)))
