@@ -9,7 +9,7 @@ use names::check_table;
 use names::clue_len;
 
 // Names 0 to 63, in a row that has no filling.
-const ALL_NAMES: [u8; 64] = [
+pub const ALL_NAMES: [u8; 64] = [
     0,
     1,
     2,

@@ -11,17 +11,17 @@ use names::place_of;
 use refusals::Refusal;
 
 // The bench's names.
-const GARAGE: u8 = 0;
+pub const GARAGE: u8 = 0;
 
-const VEHICLE: u8 = 1;
+pub const VEHICLE: u8 = 1;
 
-const TEST: u8 = 2;
+pub const TEST: u8 = 2;
 
-const AXLE: u8 = 3;
+pub const AXLE: u8 = 3;
 
-const CURVE: u8 = 4;
+pub const CURVE: u8 = 4;
 
-const NOTE: u8 = 5;
+pub const NOTE: u8 = 5;
 
 // Shows the number that a child of place k of n gets, and answers the next number after it.
 fn give(n: usize, k: usize, next: u16) -> u16 {

@@ -1,14 +1,14 @@
 -- What cutting answers and leaves, for each way out of its code.
 use Prim.Native.Nat.{ℕ, _*_, _/_, _<_, _≤_}
-use mathlib.Core.Path.{_≡_, refl, _∙_}
+use mathlib.Core.Path.{_≡_, ap, _∙_}
 use mathlib.Core.Bool.{Bool, true, false, not, _||_}
-use mathlib.Core.List.{List, [], _∷_, _++_}
-use mathlib.Core.Option.{Option, none, some}
+use mathlib.Core.List.{List, [], _∷_}
+use mathlib.Core.Option.{some}
 use native.Mathlib.Omega.{arith}
 use lib.ListN.{length}
 use lib.Dec.{leb, eqb}
 use borrow.Author.Tests.{le-leb, lt-leb, not-true, not-false}
-use Rattle.model.specs.Basics.{elim?, over}
+use Rattle.model.specs.Basics.{over}
 use Rattle.model.specs.Limits.{anyName, labelSize}
 use Rattle.model.specs.Refusals.{Refusal, refuse, check, first, nameAsked, shortOutput}
 use Rattle.model.specs.Names.{isName}
@@ -21,18 +21,12 @@ use Rattle.refusals.specs.Answers.{verdictOf}
 use Rattle.refusals.specs.declared.Refusal as declared
 use Rattle.refusals.specs.declared.Verdict.{Verdict}
 use Rattle.refusals.specs.declared.Verdict.the-variants as verdict
-use Rattle.refusals.proofs.Verdicts.{passed-none}
+use Rattle.refusals.proofs.Verdicts.{passed-none, refused-some}
 use Rattle.soundness.specs.Rules.{storeCheck}
+use Rattle.soundness.proofs.Stores.{store-refused, store-passed}
 use Rattle.cutting.specs.declared.Listing.{Listing}
 use Rattle.cutting.specs.Answers.{cutting, refusedBy, listingOf}
 use Rattle.cutting.proofs.Sound.{store-laid, stream-words}
-
--- checks one after the other
-first-append : (os rs : List (Option Refusal)) → first (os ++ rs) ≡ elim? (first os) (first rs) some
-unfolding first elim?
-first-append [] rs = refl
-first-append (none ∷ os) rs = first-append os rs
-first-append (some r ∷ os) rs = refl
 
 -- there is room for the words of a stream
 pub room-held : {n k size : ℕ} → n ≡ k → n ≤ size / labelSize → labelSize * k ≤ size
@@ -43,11 +37,6 @@ module _ (rows : List (List ℕ)) (ws : List ℕ) (count want : ℕ) (out : List
   abbrev words : List ℕ
   words = labelsWords (model.stream want (elements count ws))
 
-  -- the store's checks come first
-  store-first : model.cutRefusal rows ws count want out ≡ elim? (storeCheck rows ws count) (first (nameCheck want 0 ∷ model.roomCheck words out ∷ [])) some
-  unfolding model.cutRefusal storeCheck
-  store-first = first-append _ (nameCheck want 0 ∷ model.roomCheck words out ∷ [])
-
   -- a refused call leaves the output
   refused-by : (r : Refusal) {v : Verdict} {a : Listing} → model.cutRefusal rows ws count want out ≡ some r → v ≡ verdictOf (some r) → a ≡ refusedBy v →
       cutting a out ≡ listingOf (model.cut rows ws count want out)
@@ -56,21 +45,17 @@ module _ (rows : List (List ℕ)) (ws : List ℕ) (count want : ℕ) (out : List
 
   module _ {v : Verdict} (checked : v ≡ verdictOf (storeCheck rows ws count)) where
     -- a table or a store that is ruled out
-    pub store-refused : {x : declared.Refusal} {a : Listing} → v ≡ verdict.Refused x → a ≡ refusedBy v → cutting a out ≡ listingOf (model.cut rows ws count want out)
-    unfolding elim?
-    store-refused {x} {a} f g = go (storeCheck rows ws count) checked store-first
-      where
-        go : (o : Option Refusal) → v ≡ verdictOf o →
-            model.cutRefusal rows ws count want out ≡ elim? o (first (nameCheck want 0 ∷ model.roomCheck words out ∷ [])) some →
-            cutting a out ≡ listingOf (model.cut rows ws count want out)
-        go none p e = absurd (let z : _≡_ {A = ℕ} 0 1 = cc in omega arith)
-        go (some r) p e = refused-by r e p g
+    pub refused-first : {x : declared.Refusal} {a : Listing} → v ≡ verdict.Refused x → a ≡ refusedBy v → cutting a out ≡ listingOf (model.cut rows ws count want out)
+    unfolding model.cutRefusal
+    refused-first f g =
+        let (r, is) = refused-some (storeCheck rows ws count) checked f in
+        refused-by r (store-refused rows ws count _ r is) (checked ∙ ap verdictOf is) g
 
     module _ (good : v ≡ verdict.Passed) {b : Bool} (is : b ≡ (isName want || eqb want anyName)) where
       -- behind the store's checks comes the name's
       name-next : model.cutRefusal rows ws count want out ≡ first (check b nameAsked 0 ∷ model.roomCheck words out ∷ [])
-      unfolding nameCheck elim?
-      name-next = store-first ∙ rw (passed-none (storeCheck rows ws count) checked good, is)
+      unfolding model.cutRefusal nameCheck
+      name-next = store-passed rows ws count (passed-none (storeCheck rows ws count) checked good) _ ∙ rw is
 
       -- a name that may not be asked for
       pub name-refused : {u : Verdict} {a : Listing} → not b ≡ true → u ≡ verdictOf (refuse nameAsked 0) → a ≡ refusedBy u →

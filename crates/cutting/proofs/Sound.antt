@@ -15,9 +15,8 @@ use Rattle.model.specs.Cutting.{stream}
 use Rattle.model.proofs.Faults.{fault-cons, sound-check}
 use Rattle.model.proofs.Lists.{member-at}
 use Rattle.model.proofs.MatchWords.{length-labelsWords}
-use Rattle.model.proofs.Refusals.{first-none}
 use Rattle.model.proofs.Relaid.{sound-laid}
-use Rattle.model.proofs.Sizes.{size-iff, length-elements-read}
+use Rattle.model.proofs.Sizes.{length-elements-read}
 use Rattle.model.proofs.SoundStore.{label-good}
 use Rattle.model.proofs.StreamWords.{for-stream}
 use Rattle.refusals.specs.Answers.{verdictOf}
@@ -27,6 +26,7 @@ use Rattle.refusals.proofs.Verdicts.{passed-none}
 use Rattle.records.specs.Records.{recordAt}
 use Rattle.records.proofs.Elements.{record-first, record-behind, element-at}
 use Rattle.soundness.specs.Rules.{storeCheck}
+use Rattle.soundness.proofs.Stores.{store-sound, store-room}
 use Rattle.cutting.specs.Words.{Laid}
 
 -- sound records are laid out as they must be
@@ -42,15 +42,12 @@ sound-records cl (suc n) done ws e (suc r) h =
 module _ (rows : List (List ℕ)) (ws : List ℕ) (count : ℕ) {v : Verdict} (checked : v ≡ verdictOf (storeCheck rows ws count)) (good : v ≡ verdict.Passed) where
   -- the store has room for the records in use
   pub store-held : recordSize * count ≤ length ws
-  unfolding storeCheck
-  store-held = size-iff (length ws) count .0 (first-none _ _ (first-none _ _ (passed-none _ checked good) .1) .0) .held
+  store-held = store-room rows ws count (passed-none (storeCheck rows ws count) checked good)
 
   -- each of which is laid out as it must be
   pub store-laid : Laid count ws
-  unfolding storeCheck
   store-laid =
-      let rest = first-none _ _ (first-none _ _ (passed-none _ checked good) .1) .1 in
-      sound-records (cluesOf rows) count [] ws (sound-check (cluesOf rows) count ws .0 (first-none _ _ rest .0))
+      sound-records (cluesOf rows) count [] ws (sound-check (cluesOf rows) count ws .0 (store-sound rows ws count (passed-none (storeCheck rows ws count) checked good)))
 
 -- records that are laid out have labels that fit their words
 laid-fit : (count : ℕ) (ws : List ℕ) → Laid count ws → (e : Element) → e ∈ elements count ws → length (e .label) ≤ maxDepth

@@ -1,7 +1,6 @@
 -- What the reader of a child-name file answers, for each way out of its code.
-use mathlib.Core.Path.{_≡_, refl, ap, _∙_}
+use mathlib.Core.Path.{_≡_, ap, _∙_}
 use mathlib.Core.List.{List, [], _∷_}
-use mathlib.Core.Option.{Option, none, some}
 use Prim.Native.Nat.{ℕ, _+_, _*_, _/_, _%_, _≤_, _<_}
 use native.Mathlib.Omega.{arith}
 use lib.ListN.{length, getD, set, replicate}
@@ -19,6 +18,7 @@ use Rattle.refusals.specs.Answers.{verdictOf}
 use Rattle.names.specs.declared.Place.{Place}
 use Rattle.names.specs.declared.Place.the-variants as place
 use Rattle.names.specs.Answers.{placeOf}
+use Rattle.names.proofs.Children.{place-at, place-absent}
 use Rattle.name_files.specs.Answers.{Read, read, readOf, refusedBy}
 use Rattle.name_files.proofs.Reading.{Reading, read-end, read-high-parent, read-high-child, read-again, read-room, read-on}
 
@@ -26,16 +26,6 @@ use Rattle.name_files.proofs.Reading.{Reading, read-end, read-high-pare
 pub empty-left : {v : Verdict} {n place : ℕ} → v ≡ verdictOf (refuse n place) → read v (replicate tableSize (replicate tableSize filler)) ≡ refusedBy n place
 unfolding emptyTable
 empty-left e = ap {B = Read} (λ v. read v (replicate tableSize (replicate tableSize filler))) e
-
--- what the lookup of a place says of the definition
-place-at : (o : Option ℕ) {k : ℕ} {r : Place} → r ≡ placeOf o → r ≡ place.At k → o ≡ some k
-place-at none p q = absurd (let z : _≡_ {A = ℕ} 0 1 = cc in omega arith)
-place-at (some d) p q = cc
-
--- and that a name is absent
-place-absent : (o : Option ℕ) {r : Place} → r ≡ placeOf o → r ≡ place.Absent → o ≡ none
-place-absent none p q = refl
-place-absent (some d) p q = absurd (let z : _≡_ {A = ℕ} 0 1 = cc in omega arith)
 
 module _ (file : List ℕ) where
   -- a refused file

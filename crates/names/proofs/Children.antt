@@ -1,9 +1,11 @@
--- What the lookup of a child tells of the definition.
+-- What the lookups of a child tell of the definitions.
 use Prim.Native.Nat.{ℕ}
 use mathlib.Core.Path.{_≡_, refl}
 use mathlib.Core.Option.{Option, none, some}
 use native.Mathlib.Omega.{arith}
-use Rattle.names.specs.Answers.{childOf}
+use Rattle.names.specs.Answers.{placeOf, childOf}
+use Rattle.names.specs.declared.Place.{Place}
+use Rattle.names.specs.declared.Place.the-variants as place
 use Rattle.names.specs.declared.Child.{Child}
 use Rattle.names.specs.declared.Child.the-variants as child
 
@@ -16,3 +18,13 @@ child-name (some d) p q = cc
 pub child-nowhere : (o : Option ℕ) {r : Child} → r ≡ childOf o → r ≡ child.Nowhere → none ≡ o
 child-nowhere none p q = refl
 child-nowhere (some d) p q = absurd (let z : _≡_ {A = ℕ} 0 1 = cc in omega arith)
+
+-- a place that was found
+pub place-at : (o : Option ℕ) {k : ℕ} {r : Place} → r ≡ placeOf o → r ≡ place.At k → o ≡ some k
+place-at none p q = absurd (let z : _≡_ {A = ℕ} 0 1 = cc in omega arith)
+place-at (some d) p q = cc
+
+-- a name that is absent
+pub place-absent : (o : Option ℕ) {r : Place} → r ≡ placeOf o → r ≡ place.Absent → o ≡ none
+place-absent none p q = refl
+place-absent (some d) p q = absurd (let z : _≡_ {A = ℕ} 0 1 = cc in omega arith)

@@ -2,3 +2,4 @@
 pub mod Rows
 pub mod Marks
 pub mod Children
+pub mod Lens

@@ -1,5 +1,5 @@
 -- Rows read from an index on: how many names they hold, where a name stands, and which name a component picks.
-use Prim.Native.Nat.{ℕ, suc, _+_, _-_, _%_, _<_, _≤_}
+use Prim.Native.Nat.{ℕ, suc, _+_, _%_, _<_, _≤_}
 use mathlib.Core.Path.{_≡_, refl, sym, ap, _∙_}
 use mathlib.Core.List.{List, [], _∷_}
 use mathlib.Core.Option.{Option, none, some, Option·map}
@@ -162,6 +162,10 @@ module _ (row : List ℕ) (x : ℕ) {n : ℕ} (is : n ≡ length (namesOf row)) 
 
 -- what is read of a row's copy is read of its clue: the copy is lent whole
 module _ {clue copy row : List ℕ} (is : namesOf copy ≡ clue) (same : row ≡ copy) where
+  -- the row has as many names
+  pub clue-size : {n : ℕ} → n ≡ length clue → n ≡ length (namesOf row)
+  clue-size e = rw (same, is) e
+
   -- how many names
   pub clue-count : {n : ℕ} → n ≡ length (namesOf row) → n ≡ length clue
   clue-count e = rw (← is, ← same) e

@@ -8,7 +8,7 @@ ghost use lib.ListN.{length};
 ghost use Rattle.model.specs.Basics.{all};
 ghost use Rattle.model.specs.Names as model;
 ghost use Rattle.refusals.specs.Answers.{verdictOf};
-ghost use Rattle.names.specs.Answers.{placeOf, childOf, isFiller};
+ghost use Rattle.names.specs.Answers.{placeOf, childOf, isFiller, lensOf};
 
 // The highest name.
 pub const MAX_NAME: u8 = 63;
@@ -41,7 +41,7 @@ fn whole(row: &[u8; 64]) -> &[u8]
 
 // The rows as a slice.
 fn rows_of(table: &Table) -> &[[u8; 64]]
-    ensures { λ r. ⌜ now r ≡ now (table .entry) ⌝ }
+    ensures { λ r. ⌜ (now r ≡ now (table .entry)) × (length (now r) ≡ 64) ⌝ }
 {
     table
 }
@@ -105,11 +105,11 @@ pub fn place_of(table: &Table, parent: usize, child: u8) -> Place
     row_place(whole(&row), child)
 }
 
-// The name that a component leads to in a row.
-fn row_child(row: &[u8], component: u16) -> Child
+// The name that a component leads to in a row of n names.
+fn row_child(row: &[u8], n: usize, component: u16) -> Child
+    requires { ⌜ n ≡ length (model.namesOf (now row)) ⌝ }
     ensures { λ r. ⌜ r ≡ childOf (model.led (model.namesOf (now (row .entry))) component) ⌝ }
 {
-    let n = row_len(row);
     if n == 0 {
         return Child::Nowhere;
     }
@@ -121,8 +121,31 @@ fn row_child(row: &[u8], component: u16) -> Child
 pub fn child_of(table: &Table, parent: usize, component: u16) -> Child
     ensures { λ r. ⌜ r ≡ childOf (model.led (model.cluesOf (now (table .entry)) parent) component) ⌝ }
 {
+    child_among(table, parent, clue_len(table, parent), component)
+}
+
+// The name that a component leads to from a name whose clue has n names.
+pub fn child_among(table: &Table, parent: usize, n: usize, component: u16) -> Child
+    requires { ⌜ n ≡ length (model.cluesOf (now table) parent) ⌝ }
+    ensures { λ r. ⌜ r ≡ childOf (model.led (model.cluesOf (now (table .entry)) parent) component) ⌝ }
+{
     let row = row_of(table, parent);
-    row_child(whole(&row), component)
+    row_child(whole(&row), n, component)
+}
+
+// How many names each clue has.
+pub fn clue_lens(table: &Table) -> [usize; 64]
+    ensures { λ r. ⌜ r ≡ lensOf (now (table .entry)) ⌝ }
+{
+    let rows = rows_of(table);
+    let mut lens = [0usize; 64];
+    let mut i: usize = 0;
+    while i < rows.len() {
+        let row = rows[i];
+        lens[i] = row_len(whole(&row));
+        i += 1;
+    }
+    lens
 }
 
 // Every number is a name, and none stands twice.

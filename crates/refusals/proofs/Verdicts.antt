@@ -21,3 +21,8 @@ pub refused-check : (b : Bool) (n place : ℕ) {v : Verdict} {x : Refusal} → v
 unfolding model.check
 refused-check true n place e f = absurd (let z : _≡_ {A = ℕ} 0 1 = cc in omega arith)
 refused-check false n place e f = refl
+
+-- a refusal that was answered is the check's
+pub refused-some : (o : Option model.Refusal) {v : Verdict} {x : Refusal} → v ≡ verdictOf o → v ≡ verdict.Refused x → (r : model.Refusal) × (o ≡ some r)
+refused-some none e f = absurd (let z : _≡_ {A = ℕ} 0 1 = cc in omega arith)
+refused-some (some r) e f = (r, refl)

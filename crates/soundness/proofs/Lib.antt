@@ -6,3 +6,4 @@ pub mod Rules
 pub mod Ready
 pub mod Scan
 pub mod Checks
+pub mod Stores

@@ -1,9 +1,9 @@
 -- One step of the pass over the records: the rules that it tests are the paper's, and what it keeps holds after the step.
 use Prim.Native.Nat.{ℕ, zero, suc, _+_, _*_, _<_, _≤_}
 use mathlib.Core.Path.{_≡_, refl, sym, ap, subst, _∙_}
-use mathlib.Core.Logic.{_⊎_, inl, inr, ⊎-elim, by-cases}
-use mathlib.Core.Bool.{Bool, true, false, cond, _&&_}
-use mathlib.Core.List.{List, [], _∷_}
+use mathlib.Core.Logic.{inl, inr, ⊎-elim, by-cases}
+use mathlib.Core.Bool.{Bool, true, false, cond}
+use mathlib.Core.List.{List, _∷_}
 use mathlib.Core.Option.{Option, none, some}
 use native.Mathlib.Decide.{decLt}
 use native.Mathlib.Omega.{arith}
@@ -11,11 +11,11 @@ use lib.ListN.{length, getD, take, set}
 use lib.Seq.{take-take, take-all, length-take-le, getD-set-same, getD-set-other}
 use lib.Dec.{T, ltb, eqb}
 use borrow.Author.Tests.{eqb-true}
-use Rattle.model.specs.Basics.{_∈_, elim?, last}
+use Rattle.model.specs.Basics.{elim?, last}
 use Rattle.model.specs.Limits.{recordSize}
 use Rattle.model.specs.Names.{Clues}
 use Rattle.model.specs.Labels.{Label, before, shared, same, above}
-use Rattle.model.specs.Store.{Element, Rule, readElement, find, test, laidOut, leads, closed, broken, parentRule, nameRule, lastRule, nextRule, orderRule}
+use Rattle.model.specs.Store.{Element, Rule, readElement, find, test, laidOut, leads, closed, broken, parentRule, nameRule, lastRule, nextRule}
 use Rattle.model.proofs.Tests.{Tells, passes, fails, eq?, and-iff, eqb-alike}
 use Rattle.model.proofs.Lists.{nowhere, for-cons}
 use Rattle.model.proofs.LabelOrder.{before-order, same?}
@@ -25,9 +25,9 @@ use Rattle.model.proofs.Sound.{test-passes}
 use Rattle.model.proofs.SoundStore.{test-rest}
 use Rattle.records.specs.Records.{recordAt}
 use Rattle.records.proofs.Parts.{record-depth, record-label, record-long}
-use Rattle.soundness.specs.Rules.{Laid, depthFits, brokenRoot, brokenBelow, brokenAt}
+use Rattle.soundness.specs.Rules.{Laid, brokenRoot, brokenBelow, brokenAt}
 use Rattle.soundness.proofs.Fits.{fitting-depth, depth-root, depth-below}
-use Rattle.soundness.proofs.Trail.{behind, Lineage, Trail, parent-shared, find-none}
+use Rattle.soundness.proofs.Trail.{behind, Trail, parent-shared, find-none}
 
 -- a test that is true passes
 passed : {b : Bool} → b ≡ true → T b

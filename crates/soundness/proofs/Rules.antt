@@ -1,24 +1,24 @@
 -- What each way out of the code on one record tells of the rules.
 use Prim.Native.Nat.{ℕ, _+_, _-_, _*_, _<_, _≤_}
-use mathlib.Core.Path.{_≡_, refl, sym, ap, ap₂, subst, _∙_}
+use mathlib.Core.Path.{_≡_, refl, sym, ap, ap₂, _∙_}
 use mathlib.Core.Bool.{Bool, true, false, not, _||_}
-use mathlib.Core.List.{List, []}
-use mathlib.Core.Option.{Option, none, some}
+use mathlib.Core.List.{List}
 use native.Mathlib.Omega.{arith}
-use lib.ListN.{length, getD}
-use lib.Dec.{T, eqb, ltb}
+use lib.ListN.{length, getD, List·getD-eq-default}
+use lib.Dec.{eqb, ltb}
 use borrow.Author.Tests.{eq-eqb, ne-eqb, lt-ltb, le-ltb, le-leb, lt-leb, not-true, not-false}
 use Rattle.model.specs.Basics.{elim?, last}
 use Rattle.model.specs.Limits.{maxDepth, maxName, recordSize, nameWord, nextWord}
 use Rattle.model.specs.Refusals.{unsound}
-use Rattle.model.specs.Names.{Clues, led, isName}
+use Rattle.model.specs.Names.{Clues, cluesOf, led, isName}
 use Rattle.model.specs.Labels.{Label, before, shared, labelOf}
 use Rattle.model.specs.Store as model
 use Rattle.model.proofs.Faults.{rule-number}
 use Rattle.model.proofs.Kinship.{shared-low}
-use Rattle.names.specs.Answers.{childOf}
+use Rattle.names.specs.Answers.{childOf, lensOf}
 use Rattle.names.specs.declared.Child.{Child}
 use Rattle.names.specs.declared.Child.the-variants as child
+use Rattle.names.proofs.Lens.{lens-at}
 use Rattle.names.proofs.Children.{child-name, child-nowhere}
 use Rattle.records.specs.Records.{recordAt}
 use Rattle.records.proofs.Parts.{record-word, record-label, record-long}
@@ -43,23 +43,31 @@ or-false : (a : Bool) → (a || false) ≡ a
 or-false true = refl
 or-false false = refl
 
--- a next number by the clue and the depth
-module _ (clue : List ℕ) (depth next : ℕ) where
+-- a next number by the clue's length and the depth
+module _ (n depth next : ℕ) where
   -- it is 0
-  pub closed-zero : next ≡ 0 → true ≡ closedBy clue depth next
+  pub closed-zero : next ≡ 0 → true ≡ closedBy n depth next
   unfolding closedBy
-  closed-zero e = sym (ap (λ b. not (eqb (length clue) 0 || eqb depth maxDepth) || b) (eq-eqb next 0 e) ∙ or-true (not (eqb (length clue) 0 || eqb depth maxDepth)))
+  closed-zero e = sym (ap (λ b. not (eqb n 0 || eqb depth maxDepth) || b) (eq-eqb next 0 e) ∙ or-true (not (eqb n 0 || eqb depth maxDepth)))
 
-  module _ (n : next ≡ 0 → ⊥) where
+  module _ (more : next ≡ 0 → ⊥) where
     -- the depth is 15
-    pub closed-deep : depth ≡ maxDepth → false ≡ closedBy clue depth next
+    pub closed-deep : depth ≡ maxDepth → false ≡ closedBy n depth next
     unfolding closedBy
-    closed-deep e = rw (ne-eqb next 0 n, eq-eqb depth maxDepth e, or-true)
+    closed-deep e = rw (ne-eqb next 0 more, eq-eqb depth maxDepth e, or-true)
 
     -- the clue decides
-    pub closed-clue : (depth ≡ maxDepth → ⊥) → {k : ℕ} → k ≡ length clue → not (eqb k 0) ≡ closedBy clue depth next
+    pub closed-clue : (depth ≡ maxDepth → ⊥) → not (eqb n 0) ≡ closedBy n depth next
     unfolding closedBy
-    closed-clue h e = rw (ne-eqb next 0 n, ne-eqb depth maxDepth h, or-false, or-false, e)
+    closed-clue h = rw (ne-eqb next 0 more, ne-eqb depth maxDepth h, or-false, or-false)
+
+-- past the last length there is none
+pub len-past : (lens : List ℕ) (p : ℕ) → length lens ≤ p → 0 ≡ getD lens p 0
+len-past lens p h = sym (List·getD-eq-default lens 0 h)
+
+-- a length read from those of all clues is the clue's
+pub len-is : (rows : List (List ℕ)) {lens : List ℕ} {n : ℕ} (p : ℕ) → lens ≡ lensOf rows → n ≡ getD lens p 0 → n ≡ length (cluesOf rows p)
+len-is rows p all e = e ∙ ap (λ l. getD l p 0) all ∙ lens-at rows p
 
 -- a component below a clue
 module _ (clue : List ℕ) (x name : ℕ) {c : Child} (is : c ≡ childOf (led clue x)) where
@@ -85,15 +93,15 @@ module _ (cl : Clues) (ws : List ℕ) where
   unfolding brokenRoot isName model.test
   root-high h = rw (root-word, lt-leb (getD ws nameWord 0) maxName h)
 
-  module _ (low : getD ws nameWord 0 ≤ maxName) (flat : getD ws 0 0 ≡ 0) (room : recordSize ≤ length ws) {b : Bool}
-      (is : b ≡ closedBy (cl (getD ws nameWord 0)) 0 (getD ws nextWord 0)) where
+  module _ (low : getD ws nameWord 0 ≤ maxName) (flat : getD ws 0 0 ≡ 0) (room : recordSize ≤ length ws) {n : ℕ}
+      (size : n ≡ length (cl (getD ws nameWord 0))) {b : Bool} (is : b ≡ closedBy n 0 (getD ws nextWord 0)) where
     -- the rule of its next number
     root-closed : b ≡ model.closed cl (model.readElement (recordAt 0 ws))
     unfolding closedBy model.closed model.readElement
     root-closed =
         let deep : getD ws (0 * recordSize) 0 ≤ maxDepth = omega arith in
         let long : length (labelOf (recordAt 0 ws)) ≡ 0 = ap length (sym (record-label ws 0 deep)) ∙ record-long ws 0 deep room ∙ flat in
-        is ∙ rw (root-word, long, record-word ws 0 nextWord (omega arith))
+        is ∙ rw (size, root-word, long, record-word ws 0 nextWord (omega arith))
 
     -- it is broken
     pub root-next : not b ≡ true → check.Broken rule.Next ≡ checkOf (brokenRoot cl (model.readElement (recordAt 0 ws)))
@@ -153,8 +161,8 @@ module _ (cl : Clues) (ws : List ℕ) (r parent : ℕ) {l m : Label} (p : l ≡ 
               ap₂ ltb (sym last-is) (record-word ws parent nextWord (omega arith)) ∙ le-ltb _ _ h in
               rw (← p, ← q, ← order, not-false b ascends, ← is, eq-eqb _ _ stands, ← led-is, not-false k named, over)
 
-          module _ (h : getD m s 0 < getD ws (parent * recordSize + nextWord) 0) {f : Bool}
-              (shut : f ≡ closedBy (cl (getD ws ((r + 1) * recordSize + nameWord) 0)) (s + 1) (getD ws ((r + 1) * recordSize + nextWord) 0)) where
+          module _ (h : getD m s 0 < getD ws (parent * recordSize + nextWord) 0) {n : ℕ} (size : n ≡ length (cl (getD ws ((r + 1) * recordSize + nameWord) 0)))
+              {f : Bool} (shut : f ≡ closedBy n (s + 1) (getD ws ((r + 1) * recordSize + nextWord) 0)) where
             -- the last component is below it
             under : ltb (last m) (getD (recordAt parent ws) nextWord 0) ≡ true
             under = ap₂ ltb (sym last-is) (record-word ws parent nextWord (omega arith)) ∙ lt-ltb _ _ h
@@ -162,7 +170,7 @@ module _ (cl : Clues) (ws : List ℕ) (r parent : ℕ) {l m : Label} (p : l ≡ 
             -- the rule of its own next number
             shut-is : f ≡ model.closed cl (model.readElement (recordAt (r + 1) ws))
             unfolding closedBy model.closed model.readElement
-            shut-is = shut ∙ rw (← q, ← stands, record-word ws (r + 1) nameWord (omega arith), record-word ws (r + 1) nextWord (omega arith))
+            shut-is = shut ∙ rw (size, ← q, ← stands, record-word ws (r + 1) nameWord (omega arith), record-word ws (r + 1) nextWord (omega arith))
 
             -- it is broken
             pub below-next : not f ≡ true → check.Broken rule.Next ≡ answer

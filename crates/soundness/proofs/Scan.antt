@@ -1,6 +1,6 @@
 -- The pass over the records: what holds before record r, and what each way out of the loops tells of the definition.
 use Prim.Native.Nat.{ℕ, zero, suc, _+_, _-_, _*_, _<_, _≤_}
-use mathlib.Core.Path.{_≡_, refl, sym, ap, ap₂, subst, _∙_}
+use mathlib.Core.Path.{_≡_, refl, sym, ap, subst, _∙_}
 use mathlib.Core.Logic.{by-cases}
 use mathlib.Core.Bool.{Bool, true, false, not}
 use mathlib.Core.List.{List, [], _∷_}
@@ -8,25 +8,24 @@ use mathlib.Core.Option.{Option, none, some}
 use native.Mathlib.Decide.{decLt}
 use native.Mathlib.Omega.{arith}
 use native.Mathlib.Numerals.{add-one}
-use lib.ListN.{length, getD, take, drop, set, replicate, length-set, getD-replicate}
-use lib.Seq.{drop-drop, getD-set-same, getD-set-other}
+use lib.ListN.{length, getD, drop, set, replicate, length-set}
+use lib.Seq.{drop-drop}
 use lib.Dec.{T, eqb, ltb}
-use borrow.Author.Tests.{not-true, not-false}
+use borrow.Author.Tests.{not-true}
 use Rattle.model.specs.Basics.{elim?}
-use Rattle.model.specs.Limits.{maxDepth, recordSize, labelSize}
+use Rattle.model.specs.Limits.{maxDepth, recordSize}
 use Rattle.model.specs.Names.{Clues}
 use Rattle.model.specs.Store as model
 use Rattle.model.proofs.Tests.{and-iff, is-true}
 use Rattle.model.proofs.Relaid.{laid-depth}
 use Rattle.records.specs.Records.{recordAt}
 use Rattle.records.proofs.Parts.{record-depth}
-use Rattle.soundness.specs.Rules.{Laid, Ready, depthFits, wordFits, brokenAt}
+use Rattle.soundness.specs.Rules.{Laid, Ready, depthFits, brokenAt}
 use Rattle.soundness.specs.Answers.{ruleOf, checkOf, soundnessOf}
 use Rattle.soundness.specs.declared.Rule.{Rule}
 use Rattle.soundness.specs.declared.Rule.the-variants as rule
 use Rattle.soundness.specs.declared.Check.{Check}
 use Rattle.soundness.specs.declared.Check.the-variants as check
-use Rattle.soundness.specs.declared.Soundness.{Soundness}
 use Rattle.soundness.specs.declared.Soundness.the-variants as soundness
 use Rattle.soundness.proofs.Fits.{fitting-depth, depth-root, depth-below}
 use Rattle.soundness.proofs.Trail.{behind, Trail}

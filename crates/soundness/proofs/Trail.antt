@@ -1,26 +1,21 @@
 -- The parent of a record, known from the record before it: labels ascend, so where it stands earlier it is an ancestor of that one, or that one.
-use Prim.Native.Nat.{ℕ, zero, suc, _+_, _-_, _*_, _<_, _≤_}
-use mathlib.Core.Path.{_≡_, refl, sym, ap, ap₂, subst, _∙_}
+use Prim.Native.Nat.{ℕ, zero, suc, _+_, _-_, _<_, _≤_}
+use mathlib.Core.Path.{_≡_, refl, sym, ap, subst, _∙_}
 use mathlib.Core.Logic.{_⊎_, inl, inr, ⊎-elim, ⊎-map, by-cases}
-use mathlib.Core.Bool.{Bool, true, false, cond, _&&_}
-use mathlib.Core.List.{List, [], _∷_, _++_}
+use mathlib.Core.List.{List, [], _∷_}
 use mathlib.Core.Option.{Option, none, some}
 use native.Mathlib.Decide.{decLt}
 use native.Mathlib.Omega.{arith}
-use lib.ListN.{length, getD, take, set, length-take}
-use lib.Seq.{take-take, take-all, length-take-le, getD-set-same, getD-set-other}
-use lib.Dec.{T, ltb, eqb}
-use Rattle.model.specs.Basics.{_∈_, elim?, last}
-use Rattle.model.specs.Limits.{maxDepth, recordSize}
-use Rattle.model.specs.Names.{Clues}
-use Rattle.model.specs.Labels.{Label, before, shared, within, same, above}
-use Rattle.model.specs.Store.{Element, Rule, readElement, find, test, laidOut, leads, closed, broken, parentRule, nameRule, lastRule, nextRule}
-use Rattle.model.proofs.Tests.{Tells, passes, fails, eq?, is-true, is-false, and-iff, decide}
-use Rattle.model.proofs.Lists.{here, for-cons}
-use Rattle.model.proofs.LabelOrder.{before-order, before-one-way, before-nonroot, above-last, extend-before, within-iff, within-self, before-more, same?}
-use Rattle.model.proofs.Kinship.{shared-alike, shared-low, shared-most, shared-comm, shared-self}
-use Rattle.model.proofs.Relaid.{test-none}
-use Rattle.model.proofs.SoundStore.{find-mem, test-rest}
+use lib.ListN.{length, getD, take}
+use lib.Seq.{length-take-le}
+use lib.Dec.{T}
+use Rattle.model.specs.Basics.{_∈_, last}
+use Rattle.model.specs.Labels.{Label, before, shared, within, above}
+use Rattle.model.specs.Store.{Element, readElement, find}
+use Rattle.model.proofs.Tests.{decide}
+use Rattle.model.proofs.LabelOrder.{before-one-way, before-nonroot, above-last, extend-before, within-iff, within-self}
+use Rattle.model.proofs.Kinship.{shared-alike, shared-most}
+use Rattle.model.proofs.SoundStore.{find-mem}
 use Rattle.records.specs.Records.{recordAt}
 use Rattle.soundness.proofs.Order.{order-none}
 

@@ -1,7 +1,7 @@
 -- The rules of a sound record, as one pass over a store tests them.
-use mathlib.Core.Bool.{Bool, true, false, cond, _&&_, _||_, not}
+use mathlib.Core.Bool.{Bool, true, cond, _&&_, _||_, not}
 use mathlib.Core.List.{List, [], _∷_}
-use mathlib.Core.Option.{Option, none, some}
+use mathlib.Core.Option.{Option, none}
 use mathlib.Core.Path.{_≡_}
 use Prim.Native.Nat.{ℕ, zero, suc, _+_, _*_, _<_, _≤_}
 use lib.ListN.{length, getD}
@@ -22,9 +22,9 @@ depthFits r depth = leb depth maxDepth && cond (eqb r 0) (eqb depth 0) (ltb 0 de
 unfoldable pub wordFits : ℕ → ℕ → ℕ → Bool
 wordFits depth w x = cond (leb w depth) (isComponent x) (eqb x 0)
 
--- a next number is 0 if the clue is empty or the depth is 15
-unfoldable pub closedBy : List ℕ → ℕ → ℕ → Bool
-closedBy clue depth next = not (eqb (length clue) 0 || eqb depth maxDepth) || eqb next 0
+-- a next number is 0 if the clue, of n names, is empty or the depth is 15
+unfoldable pub closedBy : ℕ → ℕ → ℕ → Bool
+closedBy n depth next = not (eqb n 0 || eqb depth maxDepth) || eqb next 0
 
 -- the first rule behind its layout that record 0 breaks
 unfoldable pub brokenRoot : Clues → Element → Option Rule

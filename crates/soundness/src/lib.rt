@@ -4,8 +4,8 @@ use labels::shared;
 use names::Child;
 use names::MAX_NAME;
 use names::Table;
-use names::child_of;
-use names::clue_len;
+use names::child_among;
+use names::clue_lens;
 use names::table_check;
 use records::Store;
 use records::label_at;
@@ -19,6 +19,7 @@ ghost use lib.ListN.{length, getD};
 ghost use Rattle.model.specs.Names.{cluesOf};
 ghost use Rattle.model.specs.Labels as labels;
 ghost use Rattle.model.specs.Store as model;
+ghost use Rattle.names.specs.Answers.{lensOf};
 ghost use Rattle.refusals.specs.Answers.{verdictOf};
 ghost use Rattle.records.specs.Records.{recordAt};
 ghost use Rattle.soundness.specs.Rules.{Ready, closedBy, depthFits, wordFits, brokenRoot, brokenBelow, brokenAt, storeCheck};
@@ -83,9 +84,27 @@ fn word_fits(depth: usize, w: usize, word: u16) -> bool
     word == 0
 }
 
+// The lengths of the clues as a slice.
+fn whole(lens: &[usize; 64]) -> &[usize]
+    ensures { λ r. ⌜ now r ≡ now (lens .entry) ⌝ }
+{
+    lens
+}
+
+// How many names the clue of a name has, by the lengths of all.
+fn len_of(lens: &[usize], name: u16) -> usize
+    ensures { λ n. ⌜ n ≡ getD (now (lens .entry)) name 0 ⌝ }
+{
+    let p = name as usize;
+    if lens.len() <= p {
+        return 0;
+    }
+    lens[p]
+}
+
 // A next number is 0 if the clue is empty or the depth is 15.
-fn closed(table: &Table, name: usize, depth: usize, next: u16) -> bool
-    ensures { λ b. ⌜ b ≡ closedBy (cluesOf (now (table .entry)) name) depth next ⌝ }
+fn closed(n: usize, depth: usize, next: u16) -> bool
+    ensures { λ b. ⌜ b ≡ closedBy n depth next ⌝ }
 {
     if next == 0 {
         return true;
@@ -93,14 +112,15 @@ fn closed(table: &Table, name: usize, depth: usize, next: u16) -> bool
     if depth == Label::MAX_DEPTH {
         return false;
     }
-    clue_len(table, name) != 0
+    n != 0
 }
 
-// A component leads from a parent's name to a name.
-fn leads(table: &Table, parent: usize, component: u16, name: u16) -> bool
+// A component leads from a parent's name, whose clue has n names, to a name.
+fn leads(table: &Table, parent: u16, n: usize, component: u16, name: u16) -> bool
+    requires { ⌜ n ≡ length (cluesOf (now table) parent) ⌝ }
     ensures { λ b. ⌜ b ≡ model.leads (cluesOf (now (table .entry)) parent) component name ⌝ }
 {
-    let Child::Name(c) = child_of(table, parent, component) else {
+    let Child::Name(c) = child_among(table, parent as usize, n, component) else {
         return false;
     };
     c as u16 == name
@@ -121,23 +141,23 @@ fn ordered(l: &[u16], m: &[u16], s: usize) -> bool
 }
 
 // The rules of record 0 behind its layout.
-fn root_rules(table: &Table, store: &[u16]) -> Check
-    requires { ⌜ (20 ≤ length (now store)) × (getD (now store) 0 0 ≡ 0) ⌝ }
+fn root_rules(table: &Table, lens: &[usize], store: &[u16]) -> Check
+    requires { ⌜ (now lens ≡ lensOf (now table)) × (20 ≤ length (now store)) × (getD (now store) 0 0 ≡ 0) ⌝ }
     ensures { λ k. ⌜ k ≡ checkOf (brokenRoot (cluesOf (now (table .entry))) (model.readElement (recordAt 0 (now (store .entry))))) ⌝ }
 {
     let name = store[Store::NAME];
     if (MAX_NAME as u16) < name {
         return Check::Broken(Rule::Name);
     }
-    if !closed(table, name as usize, 0, store[Store::NEXT]) {
+    if !closed(len_of(lens, name), 0, store[Store::NEXT]) {
         return Check::Broken(Rule::Next);
     }
     Check::Kept
 }
 
 // The rules of a later record behind its layout, where it stands below the record with the number `parent`.
-fn child_rules(table: &Table, store: &[u16], r: usize, parent: usize) -> Check
-    requires { ⌜ (r * 20 + 40 ≤ length (now store)) × (parent * 20 + 20 ≤ length (now store)) × (getD (now store) (r * 20) 0 ≤ 15) × (getD (now store) ((r + 1) * 20) 0 ≤ 15) ⌝ }
+fn child_rules(table: &Table, lens: &[usize], store: &[u16], r: usize, parent: usize) -> Check
+    requires { ⌜ (now lens ≡ lensOf (now table)) × (r * 20 + 40 ≤ length (now store)) × (parent * 20 + 20 ≤ length (now store)) × (getD (now store) (r * 20) 0 ≤ 15) × (getD (now store) ((r + 1) * 20) 0 ≤ 15) ⌝ }
     ensures { λ k. ⌜ k ≡ checkOf (brokenBelow (cluesOf (now (table .entry))) (model.readElement (recordAt r (now (store .entry)))) (model.readElement (recordAt parent (now (store .entry)))) (model.readElement (recordAt (r + 1) (now (store .entry))))) ⌝ }
 {
     let previous = label_at(store, r);
@@ -153,32 +173,33 @@ fn child_rules(table: &Table, store: &[u16], r: usize, parent: usize) -> Check
     let at = (r + 1) * Store::RECORD_WORDS;
     let up = parent * Store::RECORD_WORDS;
     let name = store[at + Store::NAME];
-    if !leads(table, store[up + Store::NAME] as usize, last, name) {
+    let above = store[up + Store::NAME];
+    if !leads(table, above, len_of(lens, above), last, name) {
         return Check::Broken(Rule::Name);
     }
     if store[up + Store::NEXT] <= last {
         return Check::Broken(Rule::Last);
     }
-    if !closed(table, name as usize, s + 1, store[at + Store::NEXT]) {
+    if !closed(len_of(lens, name), s + 1, store[at + Store::NEXT]) {
         return Check::Broken(Rule::Next);
     }
     Check::Kept
 }
 
 // The rules of record r behind its layout.
-fn record_rules(table: &Table, store: &[u16], r: usize, parent: usize) -> Check
-    requires { ⌜ Ready (now store) r parent ⌝ }
+fn record_rules(table: &Table, lens: &[usize], store: &[u16], r: usize, parent: usize) -> Check
+    requires { ⌜ (now lens ≡ lensOf (now table)) × Ready (now store) r parent ⌝ }
     ensures { λ k. ⌜ k ≡ checkOf (brokenAt (cluesOf (now (table .entry))) (now (store .entry)) r parent) ⌝ }
 {
     if r == 0 {
-        return root_rules(table, store);
+        return root_rules(table, lens, store);
     }
-    child_rules(table, store, r - 1, parent)
+    child_rules(table, lens, store, r - 1, parent)
 }
 
 // The first record that breaks a rule, read from the front.
-fn first_fault(table: &Table, store: &[u16], count: usize) -> Soundness
-    requires { ⌜ count * 20 ≤ length (now store) ⌝ }
+fn first_fault(table: &Table, lens: &[usize], store: &[u16], count: usize) -> Soundness
+    requires { ⌜ (now lens ≡ lensOf (now table)) × (count * 20 ≤ length (now store)) ⌝ }
     ensures { λ k. ⌜ k ≡ soundnessOf (model.fault (cluesOf (now (table .entry))) [] (model.records count (now (store .entry)))) ⌝ }
 {
     let mut found = Soundness::Sound;
@@ -200,7 +221,7 @@ fn first_fault(table: &Table, store: &[u16], count: usize) -> Soundness
             }
             w += 1;
         }
-        let check = record_rules(table, store, r, parents[depth]);
+        let check = record_rules(table, lens, store, r, parents[depth]);
         if let Check::Broken(rule) = check {
             found = Soundness::Broken(rule, r);
             break 'records;
@@ -216,7 +237,8 @@ fn check_records(table: &Table, store: &[u16], count: usize) -> Verdict
     requires { ⌜ count * 20 ≤ length (now store) ⌝ }
     ensures { λ v. ⌜ v ≡ verdictOf (model.soundCheck (cluesOf (now (table .entry))) count (now (store .entry))) ⌝ }
 {
-    let found = first_fault(table, store, count);
+    let lens = clue_lens(table);
+    let found = first_fault(table, whole(&lens), store, count);
     let Soundness::Broken(rule, place) = found else {
         return Verdict::Passed;
     };

@@ -15,7 +15,7 @@ use Rattle.refusals.specs.Answers.{verdictOf}
 use Rattle.refusals.specs.declared.Refusal.{Refusal as Shown}
 use Rattle.refusals.specs.declared.Verdict.{Verdict}
 use Rattle.refusals.specs.declared.Verdict.the-variants as verdict
-use Rattle.refusals.proofs.Verdicts.{passed-none}
+use Rattle.refusals.proofs.Verdicts.{passed-none, refused-some}
 use Rattle.records.specs.Records.{recordAt}
 use Rattle.moving.specs.Moves.{inserted}
 use Rattle.lookup.specs.Places.{placeAt, passes, leading}
@@ -23,7 +23,6 @@ use Rattle.store.specs.declared.Entry.{Entry}
 use Rattle.store.specs.Answers.{entered, refusedEntry, childWritten, childAdded}
 use Rattle.store.proofs.InUse.{label-high}
 use Rattle.store.proofs.Children.{label-depth}
-use Rattle.store.proofs.Checks.{verdict-refused}
 
 module _ (ws : List ℕ) (i f : ℕ) where
   -- a word written changes no length
@@ -49,7 +48,7 @@ module _ (ws : List ℕ) (count : ℕ) {v : Verdict} (checked : v ≡ verdictOf 
   pub add-refused : (a : ℕ) (l : Label) (x name p0 p1 : ℕ) {s : Shown} {r : Entry} → v ≡ verdict.Refused s → r ≡ refusedEntry v count →
       entered r ws ≡ childAdded ws count a l x name p0 p1
   unfolding childAdded elim?
-  add-refused a l x name p0 p1 f g = let (r, e) = verdict-refused (spaceCheck (length ws) count) checked f in rw (g, checked, e)
+  add-refused a l x name p0 p1 f g = let (r, e) = refused-some (spaceCheck (length ws) count) checked f in rw (g, checked, e)
 
   module _ (free : v ≡ verdict.Passed) where
     -- a free record

@@ -18,6 +18,7 @@ use Rattle.refusals.specs.Answers.{verdictOf}
 use Rattle.refusals.specs.declared.Refusal.{Refusal as Shown}
 use Rattle.refusals.specs.declared.Verdict.{Verdict}
 use Rattle.refusals.specs.declared.Verdict.the-variants as verdict
+use Rattle.refusals.proofs.Verdicts.{refused-some}
 use Rattle.moving.specs.Moves.{removed}
 use Rattle.lookup.specs.declared.Found.{Found}
 use Rattle.lookup.specs.declared.Found.the-variants as found
@@ -26,7 +27,7 @@ use Rattle.lookup.proofs.Places.{place-before-end}
 use Rattle.store.specs.Answers.{callCheck, Changed, changed, changeOf, subtreeRemoved}
 use Rattle.store.proofs.InUse.{end-used, find-absent, find-found}
 use Rattle.store.proofs.Deletions.{delete-count, delete-words}
-use Rattle.store.proofs.Checks.{verdict-refused, found-at, found-absent, call-refused, call-passed, call-sound, call-room, checks-passed}
+use Rattle.store.proofs.Checks.{found-at, found-absent, call-refused, call-passed, call-sound, call-room, checks-passed}
 
 module _ (count : ℕ) (ws : List ℕ) (l : Label) (a : ℕ) (can : Searchable count ws) (at : placeAt l (elements count ws) ≡ some a)
     {end : ℕ} (ends : end ≡ leading (passes true l) (elements count ws)) where
@@ -59,7 +60,7 @@ module _ (rows : List (List ℕ)) (ws : List ℕ) (count : ℕ) (lw : List ℕ) 
     pub delete-unchecked : {s : Shown} → v ≡ verdict.Refused s → changed (record { verdict = v; count = count }) ws ≡ changeOf (delete rows ws count lw)
     unfolding deletionRefusal
     delete-unchecked f =
-        let (r, e) = verdict-refused (callCheck rows ws count lw) checked f in
+        let (r, e) = refused-some (callCheck rows ws count lw) checked f in
         deletion-refused (call-refused rows ws count lw _ r e) (checked ∙ ap verdictOf e)
 
     module _ (good : v ≡ verdict.Passed) where

@@ -18,6 +18,7 @@ use Rattle.refusals.specs.Answers.{verdictOf}
 use Rattle.refusals.specs.declared.Refusal.{Refusal as Shown}
 use Rattle.refusals.specs.declared.Verdict.{Verdict}
 use Rattle.refusals.specs.declared.Verdict.the-variants as verdict
+use Rattle.refusals.proofs.Verdicts.{refused-some}
 use Rattle.records.specs.Records.{recordAt}
 use Rattle.lookup.specs.declared.Found.{Found}
 use Rattle.lookup.specs.declared.Found.the-variants as found
@@ -26,7 +27,7 @@ use Rattle.store.specs.declared.Entry.{Entry}
 use Rattle.store.specs.Answers.{callCheck, Entered, entered, entryOf, refusedEntry, childAnswer, childAdded, enteredBelow}
 use Rattle.store.proofs.InUse.{find-absent, find-found, parent-read, parent-label, label-high}
 use Rattle.store.proofs.Entries.{enter-words}
-use Rattle.store.proofs.Checks.{verdict-refused, found-label, found-absent, call-refused, call-passed, call-sound, checks-passed}
+use Rattle.store.proofs.Checks.{found-label, found-absent, call-refused, call-passed, call-sound, checks-passed}
 use Rattle.store.proofs.Gifts.{passed-high}
 
 -- an entry that is refused
@@ -84,7 +85,7 @@ module _ (rows : List (List ℕ)) (ws : List ℕ) (count : ℕ) (lw : List ℕ) 
   pub enter-unchecked : {s : Shown} {e : Entry} → v ≡ verdict.Refused s → e ≡ refusedEntry v count → entered e ws ≡ entryOf (model.enter rows ws count lw name p0 p1)
   unfolding model.entryRefusal
   enter-unchecked f h =
-      let (r, g) = verdict-refused (callCheck rows ws count lw) checked f in
+      let (r, g) = refused-some (callCheck rows ws count lw) checked f in
       entry-refused rows ws count lw name p0 p1 (call-refused rows ws count lw _ r g) (checked ∙ ap verdictOf g) h
 
   module _ (good : v ≡ verdict.Passed) {l : Label} (parts : l ≡ labelOf lw) {f : Found} (looked : f ≡ foundOf (placeAt l (elements count ws))) where

@@ -24,6 +24,7 @@ use Rattle.refusals.specs.Answers.{refusalOf, verdictOf}
 use Rattle.refusals.specs.declared.Refusal.{Refusal as Shown}
 use Rattle.refusals.specs.declared.Verdict.the-variants as verdict
 use Rattle.names.specs.Answers.{placeOf}
+use Rattle.names.proofs.Children.{place-at, place-absent}
 use Rattle.names.specs.declared.Place.{Place}
 use Rattle.names.specs.declared.Place.the-variants as place
 use Rattle.labels.specs.Answers.{numberOf, numberFor}
@@ -35,16 +36,6 @@ use Rattle.store.specs.declared.Entry.{Entry}
 use Rattle.store.specs.declared.Gift.{Gift}
 use Rattle.store.specs.declared.Gift.the-variants as gift
 use Rattle.store.specs.Answers.{Entered, entered, refusedEntry, giftBy, giftOf, childAdded, enteredBelow}
-
--- the place of a name that was found
-place-at : (o : Option ℕ) {k : ℕ} {r : Place} → r ≡ placeOf o → r ≡ place.At k → o ≡ some k
-place-at none p q = absurd (let z : _≡_ {A = ℕ} 0 1 = cc in omega arith)
-place-at (some d) p q = cc
-
--- a name that was not found
-place-absent : (o : Option ℕ) {r : Place} → r ≡ placeOf o → r ≡ place.Absent → o ≡ none
-place-absent none p q = refl
-place-absent (some d) p q = absurd (let z : _≡_ {A = ℕ} 0 1 = cc in omega arith)
 
 -- a number that was given
 number-given : (y : ℕ) {x : ℕ} {r : Number} → r ≡ numberOf y → r ≡ number.Given x → (x ≡ y) × (y ≤ maxComponent)

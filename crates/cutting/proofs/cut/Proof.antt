@@ -1,7 +1,7 @@
 -- `cutting::cut` meets its contract: 22, 18, 19, 7 and 17 in turn, else the stream is written.
 use borrow.Author.Needs.{needs}
 use Rattle.cutting.proofs.Sound.{store-held, store-laid}
-use Rattle.cutting.proofs.Answers.{room-held, store-refused, name-refused, room-refused, cut-done}
+use Rattle.cutting.proofs.Answers.{room-held, refused-first, name-refused, room-refused, cut-done}
 use Rattle.cutting.proofs.cut.Statement.{statement}
 use Rattle.cutting.proofs.cut.Tie as tie
 
@@ -13,7 +13,7 @@ cut-spec =
     (λ c. search needs)
     (λ c. search needs)
     (λ c κs. search needs)
-    (λ c. search (store-refused, needs))
+    (λ c. search (refused-first, needs))
     (λ c κs. search needs)
     (λ c κs. search needs)
     (λ c κs. search needs)

@@ -8,7 +8,6 @@ pub row-child-spec : {M : Type 1} → statement M
 row-child-spec =
     tie.close
     (tie.spec
-    (λ c κs. search needs)
     (λ c. search (pick-none, needs))
     (λ c. search needs)
     (λ c. search (pick-in, needs))

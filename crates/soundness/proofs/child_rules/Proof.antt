@@ -1,7 +1,6 @@
 -- `soundness::child_rules` meets its contract: the rules are tested in the paper's order.
 use borrow.Author.Needs.{needs, fits-under}
-use mir.Facts.{fits-widen}
-use Rattle.soundness.proofs.Rules.{shared-few, below-order, below-parent, below-name, below-last, below-next, below-kept}
+use Rattle.soundness.proofs.Rules.{shared-few, len-is, below-order, below-parent, below-name, below-last, below-next, below-kept}
 use Rattle.soundness.proofs.child_rules.Statement.{statement}
 use Rattle.soundness.proofs.child_rules.Tie as tie
 
@@ -28,18 +27,18 @@ child-rules-spec =
     (λ c. search needs)
     (λ c. search needs)
     (λ c. search needs)
-    (λ c. fits-widen tt (c .shared-slice-known4 .given _))
     (λ c κs. search needs)
+    (λ c κs. search (len-is, needs))
     (λ c. search (below-name, needs))
     (λ c. search needs)
     (λ c. search needs)
     (λ c. search needs)
     (λ c. search (below-last, needs))
-    (λ c. fits-widen tt (c .before .before .before .before .shared-slice-known4 .given _))
+    (λ c κs. search needs)
     (λ c. search needs)
     (λ c. search needs)
     (λ c. search needs)
     (λ c. search needs)
     (λ c κs. search needs)
-    (λ c. search (below-next, needs))
-    (λ c. search (below-kept, needs)))
+    (λ c. search (below-next, len-is, needs))
+    (λ c. search (below-kept, len-is, needs)))

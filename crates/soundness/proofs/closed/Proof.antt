@@ -10,5 +10,4 @@ closed-spec =
     (tie.spec
     (λ c. search (closed-zero, needs))
     (λ c. search (closed-deep, needs))
-    (λ c κs. search needs)
     (λ c. search (closed-clue, needs)))

@@ -14,17 +14,17 @@ use Rattle.soundness.proofs.first_fault.Statement.{statement}
 use Rattle.soundness.proofs.first_fault.Tie as tie
 
 abbrev Inv-loop : tie.InvT-loop
-Inv-loop table store count found₀ parents r at depth w₀ found w = (1 ≤ w) × (w ≤ labelSize) × (depth ≤ maxDepth) × (depthFits r depth ≡ true) × (found ≡ soundness.Sound) × Fitting store r w
+Inv-loop table lens store count found₀ parents r at depth w₀ found w = (1 ≤ w) × (w ≤ labelSize) × (depth ≤ maxDepth) × (depthFits r depth ≡ true) × (found ≡ soundness.Sound) × Fitting store r w
 
 abbrev μ-loop : tie.MeasureT-loop
-μ-loop table store count found₀ parents r at depth w₀ found w = labelSize - w
+μ-loop table lens store count found₀ parents r at depth w₀ found w = labelSize - w
 
 abbrev Inv-records : tie.InvT-records
-Inv-records table store count found₀ parents₀ r₀ found parents r =
+Inv-records table lens store count found₀ parents₀ r₀ found parents r =
     (r ≤ count) × (found ≡ soundness.Sound) × Scanned (cluesOf table) count store parents r
 
 abbrev μ-records : tie.MeasureT-records
-μ-records table store count found₀ parents₀ r₀ found parents r = count - r
+μ-records table lens store count found₀ parents₀ r₀ found parents r = count - r
 
 pub first-fault-spec : {M : Type 1} → statement M
 first-fault-spec =
@@ -38,7 +38,7 @@ first-fault-spec =
     (λ c. search needs)
     (λ c. search needs)
     (λ c. search needs)
-    (λ c. fits-widen tt (c .shared-slice-known2 .given _))
+    (λ c. fits-widen tt (c .shared-slice-known3 .given _))
     (λ c κs. search needs)
     (λ c. search (fit-start, found-depth, found-fits, needs))
     (λ c. search needs)
@@ -50,7 +50,7 @@ first-fault-spec =
     (λ c. (search needs, search needs, search needs, search needs, search needs, fit-on _ _ (search needs) (c .before .word-fits .ensures) (search needs)))
     (λ c. search needs)
     (λ c. search needs)
-    (λ c κs. scan-ready _ _ _ _ _ (c .before .before .before .before .before .before .records .inv .2) (search needs) (search needs) (fit-laid _ _ (search needs) (c .before .loop .inv .5) (search needs) (search needs)))
+    (λ c κs. (search needs, scan-ready _ _ _ _ _ (c .before .before .before .before .before .before .records .inv .2) (search needs) (search needs) (fit-laid _ _ (search needs) (c .before .loop .inv .5) (search needs) (search needs))))
     (λ c. search needs)
     (λ c. search needs)
     (λ c. search needs)

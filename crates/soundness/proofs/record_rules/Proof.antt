@@ -8,8 +8,8 @@ pub record-rules-spec : {M : Type 1} → statement M
 record-rules-spec =
     tie.close
     (tie.spec
-    (λ c κs. ready-root _ _ _ (c .before .before .pre) (search needs))
+    (λ c κs. let ready = ready-root _ _ _ (c .before .before .before .pre .1) (search needs) in (search needs, ready .0, ready .1))
     (λ c. search (at-root, needs))
     (λ c. search needs)
-    (λ c κs. ready-child _ _ _ (c .before .before .pre) (search needs))
+    (λ c κs. let ready = ready-child _ _ _ (c .before .before .before .pre .1) (search needs) in (search needs, ready .0, ready .1, ready .2, ready .3))
     (λ c. search (at-child, needs)))
