@@ -1,12 +1,10 @@
-// Records of twenty words moved within a lent slice; record r stands at word RECORD_WORDS * r.
+// Records of twenty words moved within a lent slice; record r stands at word 20 * r.
+use records::Store;
 ghost use mathlib.Core.Path.{_≡_};
 ghost use Prim.Native.Nat.{_+_, _*_, _<_, _≤_};
 ghost use lib.ListN.{length, take, drop};
 ghost use Rattle.model.specs.Limits.{recordSize};
 ghost use Rattle.moving.specs.Moves.{put, shiftedUp, shiftedDown, cleared, inserted, removed};
-
-// The words of a record.
-const RECORD_WORDS: usize = 20;
 
 // A record copied to the place of another.
 fn copy_record(words: &mut [u16], from: usize, to: usize)
@@ -14,8 +12,8 @@ fn copy_record(words: &mut [u16], from: usize, to: usize)
     ensures { λ r. ⌜ now (words .exit) ≡ put (now (words .entry)) to (take recordSize (drop (recordSize * from) (now (words .entry)))) ⌝ }
 {
     let mut i: usize = 0;
-    while i < RECORD_WORDS {
-        words[RECORD_WORDS * to + i] = words[RECORD_WORDS * from + i];
+    while i < Store::RECORD_WORDS {
+        words[Store::RECORD_WORDS * to + i] = words[Store::RECORD_WORDS * from + i];
         i += 1;
     }
 }
@@ -49,10 +47,10 @@ fn clear_records(words: &mut [u16], from: usize, count: usize)
     requires { ⌜ (from ≤ count) × (recordSize * count ≤ length (now words)) ⌝ }
     ensures { λ r. ⌜ now (words .exit) ≡ cleared (now (words .entry)) from count ⌝ }
 {
-    let n = RECORD_WORDS * (count - from);
+    let n = Store::RECORD_WORDS * (count - from);
     let mut k: usize = 0;
     while k < n {
-        words[RECORD_WORDS * from + k] = 0;
+        words[Store::RECORD_WORDS * from + k] = 0;
         k += 1;
     }
 }
@@ -64,7 +62,7 @@ fn put_record(words: &mut [u16], at: usize, rec: &[u16])
 {
     let mut i: usize = 0;
     while i < rec.len() {
-        words[RECORD_WORDS * at + i] = rec[i];
+        words[Store::RECORD_WORDS * at + i] = rec[i];
         i += 1;
     }
 }
