@@ -65,25 +65,23 @@ fn update_times(d: &Data, ours: bool, rounds: usize) -> [f64; 2] {
     least
 }
 
-/// Least times over rounds, ours and the reference's in turns: check, entry and deletion, each ours, plain, quick.
-fn times(d: &Data) -> [[f64; 3]; 3] {
-    assert_eq!(our_check(&d.s, d.count), 0);
-    let mut t = [[f64::MAX; 3]; 3];
-    for _ in 0..8 {
-        t[0][0] = t[0][0].min(time(|| { black_box(our_check(black_box(&d.s), d.count)); }));
-        t[0][1] = t[0][1].min(time(|| { black_box(plain_check(black_box(d))).ok(); }));
-        t[0][2] = t[0][2].min(time(|| { black_box(quick_check(black_box(d))).ok(); }));
-        for (who, ours) in [(0, true), (1, false)] {
-            let u = update_times(d, ours, 100);
-            for i in 0..2 { t[1 + i][who] = t[1 + i][who].min(u[i]) }
-        }
+/// One round: the least times of check, entry and deletion, each ours, plain, quick, are kept.
+fn round(d: &Data, t: &mut [[f64; 3]; 3]) {
+    t[0][0] = t[0][0].min(time(|| { black_box(our_check(black_box(&d.s), d.count)); }));
+    t[0][1] = t[0][1].min(time(|| { black_box(plain_check(black_box(d))).ok(); }));
+    t[0][2] = t[0][2].min(time(|| { black_box(quick_check(black_box(d))).ok(); }));
+    for (who, ours) in [(0, true), (1, false)] {
+        let u = update_times(d, ours, 50);
+        for i in 0..2 { t[1 + i][who] = t[1 + i][who].min(u[i]) }
     }
-    t
 }
 
+/// The sizes and the programs take turns, since the machine's speed changes while they run.
 fn main() {
     let data = [bench(1024), bench(4096)];
-    let t = [times(&data[0]), times(&data[1])];
+    for d in &data { assert_eq!(our_check(&d.s, d.count), 0) }
+    let mut t = [[[f64::MAX; 3]; 3]; 2];
+    for _ in 0..20 { for z in 0..2 { round(&data[z], &mut t[z]) } }
     println!("{:<10}{:>8}{:>12}{:>12}{:>12}{:>10}{:>10}", "us", "records", "library", "plain", "quick", "to plain", "to quick");
     for (i, what) in ["check", "entry", "deletion"].iter().enumerate() {
         for z in 0..2 {
