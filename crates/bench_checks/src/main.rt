@@ -4,6 +4,7 @@ mod calls;
 mod elements;
 mod files;
 mod given;
+mod label_words;
 mod limits;
 mod pair;
 mod refused;
@@ -14,11 +15,14 @@ mod stores;
 mod streams;
 mod unsound;
 mod weeks;
-mod words;
 
 use files::files;
 use files::tables;
 use given::numbers;
+use label_words::decodings;
+use label_words::kinships;
+use label_words::labels;
+use label_words::order;
 use limits::depths;
 use limits::largest;
 use pair::pair;
@@ -30,10 +34,6 @@ use room::room;
 use streams::streams;
 use unsound::rules;
 use weeks::weeks;
-use words::decodings;
-use words::kinships;
-use words::labels;
-use words::order;
 
 // Stores: the installer's pair, two weeks, and what a store refuses.
 fn store_checks() {

@@ -17,15 +17,14 @@ use Rattle.model.specs.Matches.{labelsWords}
 use Rattle.model.specs.Store.{elements}
 use Rattle.model.specs.Cutting as model
 use Rattle.model.proofs.Refusals.{first-last}
-use Rattle.refusals.specs.Answers.{verdictOf}
+use Rattle.refusals.specs.Answers.{verdictOf, filled, refusedBy, listingOf}
+use Rattle.refusals.specs.declared.Listing.{Listing}
 use Rattle.refusals.specs.declared.Refusal as declared
 use Rattle.refusals.specs.declared.Verdict.{Verdict}
 use Rattle.refusals.specs.declared.Verdict.the-variants as verdict
 use Rattle.refusals.proofs.Verdicts.{passed-none, refused-some}
 use Rattle.soundness.specs.Rules.{storeCheck}
 use Rattle.soundness.proofs.Stores.{store-refused, store-passed}
-use Rattle.cutting.specs.declared.Listing.{Listing}
-use Rattle.cutting.specs.Answers.{cutting, refusedBy, listingOf}
 use Rattle.cutting.proofs.Sound.{store-laid, stream-words}
 
 -- there is room for the words of a stream
@@ -39,13 +38,13 @@ module _ (rows : List (List ℕ)) (ws : List ℕ) (count want : ℕ) (out : List
 
   -- a refused call leaves the output
   refused-by : (r : Refusal) {v : Verdict} {a : Listing} → model.cutRefusal rows ws count want out ≡ some r → v ≡ verdictOf (some r) → a ≡ refusedBy v →
-      cutting a out ≡ listingOf (model.cut rows ws count want out)
+      filled a out ≡ listingOf (model.cut rows ws count want out)
   unfolding model.cut model.listed
   refused-by r e f g = rw (e, g, f)
 
   module _ {v : Verdict} (checked : v ≡ verdictOf (storeCheck rows ws count)) where
     -- a table or a store that is ruled out
-    pub refused-first : {x : declared.Refusal} {a : Listing} → v ≡ verdict.Refused x → a ≡ refusedBy v → cutting a out ≡ listingOf (model.cut rows ws count want out)
+    pub refused-first : {x : declared.Refusal} {a : Listing} → v ≡ verdict.Refused x → a ≡ refusedBy v → filled a out ≡ listingOf (model.cut rows ws count want out)
     unfolding model.cutRefusal
     refused-first f g =
         let (r, is) = refused-some (storeCheck rows ws count) checked f in
@@ -59,7 +58,7 @@ module _ (rows : List (List ℕ)) (ws : List ℕ) (count want : ℕ) (out : List
 
       -- a name that may not be asked for
       pub name-refused : {u : Verdict} {a : Listing} → not b ≡ true → u ≡ verdictOf (refuse nameAsked 0) → a ≡ refusedBy u →
-          cutting a out ≡ listingOf (model.cut rows ws count want out)
+          filled a out ≡ listingOf (model.cut rows ws count want out)
       unfolding check first
       name-refused e = refused-by _ (name-next ∙ rw (not-true b e))
 
@@ -71,12 +70,12 @@ module _ (rows : List (List ℕ)) (ws : List ℕ) (count want : ℕ) (out : List
 
         -- an output that is too short
         pub room-refused : {u : Verdict} {a : Listing} → length out / labelSize < n → u ≡ verdictOf (refuse shortOutput 0) → a ≡ refusedBy u →
-            cutting a out ≡ listingOf (model.cut rows ws count want out)
+            filled a out ≡ listingOf (model.cut rows ws count want out)
         unfolding check
         room-refused h = refused-by _ (room-next ∙ rw (lt-leb (labelSize * n) (length out) (omega arith)))
 
         -- the stream written
         pub cut-done : {left : List ℕ} → n ≤ length out / labelSize → left ≡ over words out →
-            cutting (record { verdict = verdict.Passed; count = n }) left ≡ listingOf (model.cut rows ws count want out)
+            filled (record { verdict = verdict.Passed; count = n }) left ≡ listingOf (model.cut rows ws count want out)
         unfolding check model.cut model.listed
         cut-done h f = rw (room-next, le-leb (labelSize * n) (length out) (omega arith), f, counted)

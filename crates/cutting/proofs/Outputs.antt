@@ -1,37 +1,30 @@
--- Labels written to an output: one word more of a label, one label more of a stream.
-use Prim.Native.Nat.{ℕ, _+_, _*_, _<_, _≤_}
+-- Labels written to an output: one label over another, one label more of a stream.
+use Prim.Native.Nat.{ℕ, _+_, _-_, _*_, _≤_}
 use mathlib.Core.Path.{_≡_, refl, sym, ap, _∙_}
 use mathlib.Core.List.{List, [], _∷_, _++_, append-assoc}
 use native.Mathlib.Omega.{arith}
-use native.Mathlib.Numerals.{add-one}
-use lib.ListN.{length, getD, take, drop, set, length-append, length-drop, take-append-drop}
-use lib.Seq.{paste, paste-suc, take-at, drop-at, drop-drop, length-take-le}
+use lib.ListN.{length, take, drop, length-append, length-drop, take-append-drop}
+use lib.Seq.{take-at, take-take, drop-at, drop-drop, length-take-le}
 use Rattle.model.specs.Basics.{over, joined}
 use Rattle.model.specs.Limits.{labelSize, recordSize, maxDepth}
 use Rattle.model.specs.Labels.{Label, labelWords}
 use Rattle.model.specs.Matches.{labelsWords}
 use Rattle.model.proofs.LabelWords.{length-labelWords}
 use Rattle.records.specs.Records.{recordAt}
-use Rattle.records.proofs.Parts.{record-word}
+use Rattle.words.proofs.Words.{over-middle}
 use Rattle.cutting.specs.Words.{labelPut}
 
-module _ (out₀ : List ℕ) (at : ℕ) (ws : List ℕ) (r i : ℕ) {out : List ℕ} (inv : out ≡ paste out₀ (labelSize * at) (recordAt r ws) i) where
-  -- one word more of a record's label
-  pub word-more : r * recordSize + recordSize ≤ length ws → labelSize * (at + 1) ≤ length out₀ → i < labelSize →
-      set out (labelSize * at + i) (getD ws (r * recordSize + i) 0) ≡ paste out₀ (labelSize * at) (recordAt r ws) (i + 1)
-  unfolding recordAt
-  word-more room hold h =
-      let long : length (recordAt r ws) ≡ recordSize =
-      length-take-le recordSize (drop (r * recordSize) ws) (omega (arith, length-drop (r * recordSize) ws)) in
-      rw (inv, ← record-word ws r i (omega arith), add-one) (paste-suc out₀ (labelSize * at) (recordAt r ws) i 0 (omega arith) (omega arith))
-
-  -- all sixteen
-  pub words-all : i ≤ labelSize → labelSize ≤ i → out ≡ labelPut out₀ at (take labelSize (recordAt r ws))
-  unfolding labelPut
-  words-all h k =
-      let x : i ≡ labelSize = omega arith in
-      let y : labelSize * at + labelSize ≡ labelSize * (at + 1) = omega arith in
-      inv ∙ rw (x, y, append-assoc)
+-- the label of a record written over one of an output
+pub label-over : (out : List ℕ) (at : ℕ) (ws : List ℕ) (r : ℕ) {l : List ℕ} → r * recordSize + recordSize ≤ length ws →
+    l ≡ over (take (r * recordSize + labelSize - r * recordSize) (drop (r * recordSize) ws)) (take (length out - labelSize * at) (drop (labelSize * at) out)) →
+    take (labelSize * at) out ++ (l ++ drop (length out - labelSize * at) (drop (labelSize * at) out)) ≡ labelPut out at (take labelSize (recordAt r ws))
+unfolding labelPut recordAt
+label-over out at ws r room p =
+    let rest : List ℕ = drop (r * recordSize) ws in
+    let n : r * recordSize + labelSize - r * recordSize ≡ labelSize = omega arith in
+    let long : length (take labelSize rest) ≡ labelSize = length-take-le labelSize rest (omega (arith, length-drop (r * recordSize) ws)) in
+    rw (take-take labelSize recordSize rest (omega arith))
+    (over-middle out (take labelSize rest) (labelSize * at) (labelSize * (at + 1)) (omega arith) (rw n at p))
 
 -- an output whose first n labels stand, with the labels to come behind them
 unfoldable pub written : List Label → ℕ → List ℕ → List ℕ

@@ -1,57 +1,27 @@
 // Cutting: the stream of the labels that a name asks for, written from a sound store.
 use labels::Label;
-use names::MAX_NAME;
 use names::Table;
+use names::asks;
 use records::Store;
+use refusals::Listing;
 use refusals::Refusal;
 use refusals::Verdict;
 use refusals::refuse;
 use soundness::store_check;
+use twigs::is_asked;
+use words::overwrite;
 ghost use mathlib.Core.Path.{_≡_};
-ghost use mathlib.Core.Bool.{_||_};
 ghost use Prim.Native.Nat.{_+_, _*_, _≤_};
 ghost use lib.ListN.{length, take};
-ghost use lib.Dec.{eqb};
 ghost use Rattle.model.specs.Basics.{over};
-ghost use Rattle.model.specs.Limits.{anyName, labelSize, recordSize};
-ghost use Rattle.model.specs.Names.{isName};
+ghost use Rattle.model.specs.Limits.{labelSize, recordSize};
 ghost use Rattle.model.specs.Matches.{labelsWords};
 ghost use Rattle.model.specs.Matches as matches;
 ghost use Rattle.model.specs.Store.{readElement, elements};
 ghost use Rattle.model.specs.Cutting as model;
+ghost use Rattle.refusals.specs.Answers.{filled, listingOf};
 ghost use Rattle.records.specs.Records.{recordAt};
-ghost use Rattle.cutting.specs.Answers.{cutting, refusedBy, listingOf};
 ghost use Rattle.cutting.specs.Words.{Laid, labelPut};
-
-// What cutting answers: the verdict, and how many labels the stream has.
-pub struct Listing {
-    pub verdict: Verdict,
-    pub count: usize,
-}
-
-// 255 asks for any name.
-const ANY_NAME: u8 = 255;
-
-// A refusal gives no labels.
-fn refused(verdict: Verdict) -> Listing
-    ensures { λ r. ⌜ r ≡ refusedBy verdict ⌝ }
-{
-    Listing { verdict, count: 0 }
-}
-
-// A name that may be asked for is 0 to 63, or 255.
-fn is_asked(want: u8) -> bool
-    ensures { λ b. ⌜ b ≡ (isName want || eqb want anyName) ⌝ }
-{
-    want <= MAX_NAME || want == ANY_NAME
-}
-
-// A name is the one asked for.
-fn asks(want: u8, name: u16) -> bool
-    ensures { λ b. ⌜ b ≡ matches.asks want name ⌝ }
-{
-    want == ANY_NAME || want as u16 == name
-}
 
 // Record r has a name that is asked for.
 fn is_taken(store: &[u16], r: usize, want: u8) -> bool
@@ -82,11 +52,11 @@ fn copy_label(store: &[u16], r: usize, out: &mut [u16], at: usize)
     requires { ⌜ (r * 20 + 20 ≤ length (now store)) × (labelSize * (at + 1) ≤ length (now out)) ⌝ }
     ensures { λ u. ⌜ now (out .exit) ≡ labelPut (now (out .entry)) at (take labelSize (recordAt r (now (store .entry)))) ⌝ }
 {
-    let mut i: usize = 0;
-    while i < Label::WORDS {
-        out[Label::WORDS * at + i] = store[r * Store::RECORD_WORDS + i];
-        i += 1;
-    }
+    let from = r * Store::RECORD_WORDS;
+    overwrite(
+        &mut out[Label::WORDS * at..],
+        &store[from..from + Label::WORDS],
+    );
 }
 
 // The stream, written from the start of an output that holds it.
@@ -107,18 +77,18 @@ fn write_stream(store: &[u16], count: usize, want: u8, out: &mut [u16])
 
 // Cutting: 22, 18, 19, 7, 17. A refusal leaves the output as it was.
 pub fn cut(table: Table, store: &[u16], count: usize, want: u8, out: &mut [u16]) -> Listing
-    ensures { λ r. ⌜ cutting r (now (out .exit)) ≡ listingOf (model.cut table (now (store .entry)) count want (now (out .entry))) ⌝ }
+    ensures { λ r. ⌜ filled r (now (out .exit)) ≡ listingOf (model.cut table (now (store .entry)) count want (now (out .entry))) ⌝ }
 {
     let checked = store_check(&table, store, count);
     let Verdict::Passed = checked else {
-        return refused(checked);
+        return Listing::refused(checked);
     };
     if !is_asked(want) {
-        return refused(refuse(Refusal::NAME_ASKED, 0));
+        return Listing::refused(refuse(Refusal::NAME_ASKED, 0));
     }
     let n = stream_len(store, count, want);
     if out.len() / Label::WORDS < n {
-        return refused(refuse(Refusal::SHORT_OUTPUT, 0));
+        return Listing::refused(refuse(Refusal::SHORT_OUTPUT, 0));
     }
     write_stream(store, count, want, out);
     Listing {

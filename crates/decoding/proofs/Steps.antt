@@ -1,7 +1,7 @@
 -- The walk along a label's components: the names so far are what the components so far decode to.
 use Prim.Native.Nat.{ℕ, suc, _+_, _-_, _≤_, _<_}
 use mathlib.Core.Path.{_≡_, refl, sym, ap, _∙_}
-use mathlib.Core.List.{List, [], _∷_, _++_, append-nil, append-assoc}
+use mathlib.Core.List.{List, [], _∷_, _++_, append-assoc}
 use mathlib.Core.Option.{some}
 use native.Mathlib.Numerals.{add-one}
 use native.Mathlib.Omega.{arith}
@@ -13,7 +13,7 @@ use Rattle.model.specs.Refusals.{emptyClue}
 use Rattle.model.specs.Names.{Clues, led}
 use Rattle.model.specs.Labels.{Label, path, stuck, decode, pathCheck, namesIn}
 use Rattle.model.proofs.LabelOrder.{last-snoc}
-use Rattle.model.proofs.Decode.{further, decode-snoc, decode-child}
+use Rattle.model.proofs.Decode.{further, decode-snoc, decode-child, stuck-more}
 use Rattle.names.specs.Answers.{childOf}
 use Rattle.names.proofs.Children.{child-name, child-nowhere}
 use Rattle.names.specs.declared.Child.{Child}
@@ -21,13 +21,6 @@ use Rattle.names.specs.declared.Child.the-variants as child
 use Rattle.refusals.specs.declared.Verdict.the-variants as verdict
 use Rattle.decoding.specs.declared.Decoding.{Decoding}
 use Rattle.decoding.specs.Answers.{refusedBy, decodedBy}
-
--- a label that goes on from one that is stuck is stuck there too
-stuck-more : (cl : Clues) (p : ℕ) (l m : Label) (i : ℕ) → decode cl p l ≡ stuck i → decode cl p (l ++ m) ≡ stuck i
-stuck-more cl p l [] i e = ap (decode cl p) (append-nil l) ∙ e
-stuck-more cl p l (x ∷ m) i e =
-    ap (decode cl p) (sym (append-assoc l (x ∷ []) m)) ∙
-    stuck-more cl p (l ++ (x ∷ [])) m i (decode-snoc cl p l x ∙ ap (λ d. further cl d x) e ∙ unfold further in refl)
 
 -- after i components: the name reached is p, and the names so far fill the first i + 1 places
 pub record Walked (cl : Clues) (root : ℕ) (l : Label) (p i : ℕ) (names : List ℕ) : Type 0 where

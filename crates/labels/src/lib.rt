@@ -175,6 +175,20 @@ pub fn before(a: &[u16], b: &[u16]) -> bool
     false
 }
 
+// Label order, by the part that two labels share.
+pub fn ordered(l: &[u16], m: &[u16], s: usize) -> bool
+    requires { ⌜ s ≡ model.shared (now l) (now m) ⌝ }
+    ensures { λ b. ⌜ b ≡ model.before (now (l .entry)) (now (m .entry)) ⌝ }
+{
+    if m.len() <= s {
+        return false;
+    }
+    if l.len() <= s {
+        return true;
+    }
+    l[s] < m[s]
+}
+
 // Kinship of components to components, by the part that they share.
 fn kin(l: &[u16], m: &[u16]) -> u8
     requires { ⌜ (length (now l) ≤ 15) × (length (now m) ≤ 15) ⌝ }

@@ -1,20 +1,17 @@
 -- Records written and moved: what holds before, after each turn and at the end of the loops.
 use Prim.Native.Nat.{ℕ, _+_, _-_, _*_, _<_, _≤_}
 use mathlib.Core.Logic.{_⊎_, inl, inr, by-cases}
-use mathlib.Core.Path.{_≡_, refl, sym, ap, _∙_}
+use mathlib.Core.Path.{_≡_, sym, ap, _∙_}
 use mathlib.Core.List.{List, _++_, append-assoc}
 use native.Mathlib.Decide.{decLt}
 use native.Mathlib.Omega.{arith}
 use lib.ListN.{length, getD, take, drop, set, replicate, length-append, length-drop, length-replicate, getD-replicate, take-append-drop}
 use lib.Seq.{paste, take-all, length-take-le, getD-drop}
+use Rattle.model.specs.Basics.{over}
 use Rattle.model.specs.Limits.{recordSize}
+use Rattle.words.proofs.Words.{over-middle}
 use Rattle.moving.specs.Moves.{put, shiftedUp, shiftedDown, cleared, inserted, removed}
 use Rattle.moving.proofs.Words.{paste-more, paste-beside, two-parts, part-kept, rest-kept, then-before, then-after}
-
--- one more word of a record written
-pub put-more : (d : List ℕ) (at : ℕ) (s : List ℕ) (i : ℕ) {e : List ℕ} → e ≡ paste d (recordSize * at) s i → length s ≡ recordSize → recordSize * (at + 1) ≤ length d → i < length s →
-    set e (recordSize * at + i) (getD s i 0) ≡ paste d (recordSize * at) s (i + 1)
-put-more d at s i p n h k = paste-more d (recordSize * at) s i p (omega arith) k refl
 
 -- a whole record written
 pub put-is : (d : List ℕ) (at : ℕ) (s : List ℕ) (i : ℕ) {e : List ℕ} → e ≡ paste d (recordSize * at) s i → i ≤ recordSize → recordSize ≤ i → e ≡ put d at (take recordSize s)
@@ -24,9 +21,11 @@ put-is d at s i p h k =
     let y : recordSize * at + recordSize ≡ recordSize * (at + 1) = omega arith in
     p ∙ rw (x, y, append-assoc)
 
--- a whole record written, all there is
-pub put-all : (d : List ℕ) (at : ℕ) (s : List ℕ) (i : ℕ) {e : List ℕ} → length s ≡ recordSize → e ≡ paste d (recordSize * at) s i → i ≤ length s → length s ≤ i → e ≡ put d at s
-put-all d at s i n p h k = put-is d at s i p (omega arith) (omega arith) ∙ ap (λ r. put d at r) (take-all recordSize s (omega arith))
+-- a whole record written over another
+pub put-over : (d : List ℕ) (at : ℕ) (rec : List ℕ) {l : List ℕ} → length rec ≡ recordSize → l ≡ over rec (take (length d - recordSize * at) (drop (recordSize * at) d)) →
+    take (recordSize * at) d ++ (l ++ drop (length d - recordSize * at) (drop (recordSize * at) d)) ≡ put d at rec
+unfolding put
+put-over d at rec n p = over-middle d rec (recordSize * at) (recordSize * (at + 1)) (omega arith) p
 
 -- one more word of a record copied
 pub copy-more : (d : List ℕ) (from to i : ℕ) {e : List ℕ} → e ≡ paste d (recordSize * to) (drop (recordSize * from) d) i →

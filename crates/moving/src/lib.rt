@@ -1,5 +1,6 @@
 // Records of twenty words moved within a lent slice; record r stands at word 20 * r.
 use records::Store;
+use words::overwrite;
 ghost use mathlib.Core.Path.{_≡_};
 ghost use Prim.Native.Nat.{_+_, _*_, _<_, _≤_};
 ghost use lib.ListN.{length, take, drop};
@@ -60,11 +61,7 @@ fn put_record(words: &mut [u16], at: usize, rec: &[u16])
     requires { ⌜ (length (now rec) ≡ recordSize) × (recordSize * (at + 1) ≤ length (now words)) ⌝ }
     ensures { λ r. ⌜ now (words .exit) ≡ put (now (words .entry)) at (now (rec .entry)) ⌝ }
 {
-    let mut i: usize = 0;
-    while i < rec.len() {
-        words[Store::RECORD_WORDS * at + i] = rec[i];
-        i += 1;
-    }
+    overwrite(&mut words[Store::RECORD_WORDS * at..], rec);
 }
 
 // A record put in at a place, those from there to count moved one place up.

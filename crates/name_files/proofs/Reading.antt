@@ -16,7 +16,7 @@ use Rattle.model.specs.Limits.{maxName, tableSize, filler}
 use Rattle.model.specs.Refusals.{refuse, nameTooHigh, pairAgain}
 use Rattle.model.specs.Names.{isName, Pair, pairs, children, pairCheck, pairsCheck, rowOf, tableOf, cluesOf, placeIn}
 use Rattle.model.proofs.Tests.{and-iff, is-true, is-false, eqb-alike}
-use Rattle.model.proofs.Lists.{here, there, here-or-there, nowhere, member-at}
+use Rattle.model.proofs.Lists.{here, there, here-or-there, nowhere, member-at, keep-append}
 use Rattle.model.proofs.Refusals.{first-none, first-next, first-here, first-passed, last-passed, check-passed, check-failed}
 use Rattle.model.proofs.Once.{stands-iff, pigeonhole}
 use Rattle.model.proofs.NameTables.{placed-at, placeIn-none}
@@ -33,17 +33,6 @@ pairsCheck-on i earlier (q ∷ done) qs e =
     let d : suc i + length done ≡ i + suc (length done) = omega arith in
     first-next _ _ this ∙ pairsCheck-on (suc i) (q ∷ earlier) done qs (first-none _ _ rest .0) ∙
     ap (λ i. pairsCheck i (reverseAux done (q ∷ earlier)) qs) d
-
--- what a test keeps of two lists
-keep-append : {A : Type 0} (f : A → Bool) (l m : List A) → keep f (l ++ m) ≡ keep f l ++ keep f m
-unfolding keep
-keep-append f [] m = refl
-keep-append f (a ∷ l) m = go (f a) (keep-append f l m)
-  where
-    go : (b : Bool) → keep f (l ++ m) ≡ keep f l ++ keep f m →
-        cond b (a ∷ keep f (l ++ m)) (keep f (l ++ m)) ≡ cond b (a ∷ keep f l) (keep f l) ++ keep f m
-    go true e = ap (_∷_ a) e
-    go false e = e
 
 -- the children of a name in pairs and one more
 children-snoc : (qs : List Pair) (q : Pair) (p : ℕ) → children (qs ++ (q ∷ [])) p ≡ children qs p ++ children (q ∷ []) p

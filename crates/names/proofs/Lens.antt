@@ -4,7 +4,7 @@ use mathlib.Core.Path.{_≡_, refl, sym, ap, _∙_}
 use mathlib.Core.List.{List, [], _∷_, _++_, map-append, append-nil, append-assoc}
 use native.Mathlib.Omega.{arith}
 use native.Mathlib.Numerals.{add-one}
-use lib.ListN.{length, getD, take, set, replicate, length-map, List·getD-map}
+use lib.ListN.{length, getD, take, set, replicate, length-map, List·getD-map, List·getD-eq-default}
 use lib.Seq.{take-suc, take-all, length-take-le, set-at}
 use Rattle.model.specs.Limits.{tableSize}
 use Rattle.model.specs.Names.{namesOf, cluesOf}
@@ -14,6 +14,18 @@ use Rattle.names.specs.Answers.{lensOf}
 pub lens-at : (rows : List (List ℕ)) (p : ℕ) → getD (lensOf rows) p 0 ≡ length (cluesOf rows p)
 unfolding lensOf cluesOf namesOf
 lens-at rows p = List·getD-map (λ row. length (namesOf row)) rows p []
+
+-- past the last length there is none
+pub len-past : (lens : List ℕ) (p : ℕ) → length lens ≤ p → 0 ≡ getD lens p 0
+len-past lens p h = sym (List·getD-eq-default lens 0 h)
+
+-- a length read from those of all clues is the clue's
+pub len-is : (rows : List (List ℕ)) {lens : List ℕ} {n : ℕ} (p : ℕ) → lens ≡ lensOf rows → n ≡ getD lens p 0 → n ≡ length (cluesOf rows p)
+len-is rows p all e = e ∙ ap (λ l. getD l p 0) all ∙ lens-at rows p
+
+-- the lengths of the clues, lent
+pub lens-lent : (rows : List (List ℕ)) {lens lent : List ℕ} → lent ≡ lens → lens ≡ lensOf rows → lent ≡ lensOf rows
+lens-lent rows e f = e ∙ f
 
 -- the lengths of the first p clues are written
 abbrev pub Written : List (List ℕ) → ℕ → List ℕ → Type 0

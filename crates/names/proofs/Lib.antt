@@ -3,3 +3,4 @@ pub mod Rows
 pub mod Marks
 pub mod Children
 pub mod Lens
+pub mod Asking

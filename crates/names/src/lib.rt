@@ -4,9 +4,10 @@ use refusals::Verdict;
 use refusals::refuse;
 ghost use mathlib.Core.Path.{_≡_};
 ghost use mathlib.Core.Bool.{_&&_, not};
-ghost use lib.ListN.{length};
+ghost use lib.ListN.{length, getD};
 ghost use Rattle.model.specs.Basics.{all};
 ghost use Rattle.model.specs.Names as model;
+ghost use Rattle.model.specs.Matches as matches;
 ghost use Rattle.refusals.specs.Answers.{verdictOf};
 ghost use Rattle.names.specs.Answers.{placeOf, childOf, isFiller, lensOf};
 
@@ -16,6 +17,8 @@ pub const MAX_NAME: u8 = 63;
 pub const TABLE_SIZE: usize = 64;
 // What a row is filled up with.
 pub const FILLER: u8 = 255;
+// 255 asks for any name.
+pub const ANY_NAME: u8 = 255;
 
 // Row p has the child names of name p, in file order, filled up with 255.
 pub type Table = [[u8; 64]; 64];
@@ -146,6 +149,30 @@ pub fn clue_lens(table: &Table) -> [usize; 64]
         i += 1;
     }
     lens
+}
+
+// The lengths of the clues as a slice.
+pub fn lens_slice(lens: &[usize; 64]) -> &[usize]
+    ensures { λ r. ⌜ (now r ≡ now (lens .entry)) × (length (now r) ≡ 64) ⌝ }
+{
+    lens
+}
+
+// How many names the clue of a name has, by the lengths of all.
+pub fn clue_len_of(lens: &[usize], parent: usize) -> usize
+    ensures { λ n. ⌜ n ≡ getD (now (lens .entry)) parent 0 ⌝ }
+{
+    if lens.len() <= parent {
+        return 0;
+    }
+    lens[parent]
+}
+
+// A name is the one asked for.
+pub fn asks(want: u8, name: u16) -> bool
+    ensures { λ b. ⌜ b ≡ matches.asks want name ⌝ }
+{
+    want == ANY_NAME || want as u16 == name
 }
 
 // Every number is a name, and none stands twice.

@@ -1,9 +1,13 @@
 -- What the code's answers tell, by the definitions of `model`.
+use mathlib.Core.List.{List}
 use mathlib.Core.Option.{Option, none, some}
+use Prim.Native.Nat.{ℕ}
 use Rattle.model.specs.Refusals as model
+use Rattle.model.specs.Cutting as outputs
 use Rattle.refusals.specs.declared.Refusal.{Refusal}
 use Rattle.refusals.specs.declared.Verdict.{Verdict}
 use Rattle.refusals.specs.declared.Verdict.the-variants as verdict
+use Rattle.refusals.specs.declared.Listing.{Listing}
 
 -- a refusal of the paper, as data
 abbrev pub refusalOf : model.Refusal → Refusal
@@ -13,3 +17,20 @@ refusalOf r = record { number = r .number; place = r .place }
 abbrev pub verdictOf : Option model.Refusal → Verdict
 verdictOf none = verdict.Passed
 verdictOf (some r) = verdict.Refused (refusalOf r)
+
+-- what a call that fills an output answers and leaves: the answer, and the words of the output
+pub record Filled : Type 0 where
+  pub answer : Listing
+  pub output : List ℕ
+
+-- an answer beside an output
+abbrev pub filled : Listing → List ℕ → Filled
+filled r out = record { answer = r; output = out }
+
+-- a refusal lists nothing
+abbrev pub refusedBy : Verdict → Listing
+refusedBy v = record { verdict = v; count = 0 }
+
+-- what such a call answers and leaves
+abbrev pub listingOf : outputs.Listing → Filled
+listingOf a = filled (record { verdict = verdictOf (a .refusal); count = a .count }) (a .output)

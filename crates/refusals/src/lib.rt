@@ -2,7 +2,7 @@
 
 ghost use mathlib.Core.Path.{_≡_};
 ghost use Rattle.model.specs.Refusals as model;
-ghost use Rattle.refusals.specs.Answers.{verdictOf};
+ghost use Rattle.refusals.specs.Answers.{verdictOf, refusedBy};
 
 // A refusal of a call. The place is the record or pair from 0, the component from 1, or 0.
 pub struct Refusal {
@@ -14,6 +14,12 @@ pub struct Refusal {
 pub enum Verdict {
     Passed,
     Refused(Refusal),
+}
+
+// What a call that fills an output answers: the verdict, and how many labels or matches the output has.
+pub struct Listing {
+    pub verdict: Verdict,
+    pub count: usize,
 }
 
 impl Refusal {
@@ -68,4 +74,13 @@ pub fn refuse(number: u8, place: usize) -> Verdict
     ensures { λ r. ⌜ r ≡ verdictOf (model.refuse number place) ⌝ }
 {
     Verdict::Refused(Refusal { number, place })
+}
+
+impl Listing {
+    // A refusal lists nothing.
+    pub fn refused(verdict: Verdict) -> Listing
+        ensures { λ r. ⌜ r ≡ refusedBy verdict ⌝ }
+    {
+        Listing { verdict, count: 0 }
+    }
 }

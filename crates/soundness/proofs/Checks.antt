@@ -14,7 +14,6 @@ use Rattle.model.specs.Names.{Clues, cluesOf, goodRow, tableCheck}
 use Rattle.model.specs.Store as model
 use Rattle.model.proofs.Refusals.{first-rest, first-here, first-last}
 use Rattle.model.proofs.Sizes.{size-iff}
-use Rattle.names.specs.Answers.{lensOf}
 use Rattle.refusals.specs.Answers.{verdictOf}
 use Rattle.refusals.specs.declared.Refusal.{Refusal}
 use Rattle.refusals.specs.declared.Verdict.{Verdict}
@@ -25,10 +24,6 @@ use Rattle.soundness.specs.Answers.{Numbered, ruleOf, soundnessOf}
 use Rattle.soundness.specs.declared.Rule.{Rule}
 use Rattle.soundness.specs.declared.Soundness.{Soundness}
 use Rattle.soundness.specs.declared.Soundness.the-variants as soundness
-
--- the lengths of the clues, lent
-pub lens-lent : (rows : List (List ℕ)) {lens lent : List ℕ} → lent ≡ lens → lens ≡ lensOf rows → lent ≡ lensOf rows
-lens-lent rows e f = e ∙ f
 
 -- a store that the code says is sound
 said-sound : (o : Option model.Fault) {k : Soundness} → k ≡ soundnessOf o → k ≡ soundness.Sound → o ≡ none

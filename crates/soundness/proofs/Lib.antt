@@ -1,5 +1,4 @@
 pub mod Fits
-pub mod Order
 pub mod Trail
 pub mod Pass
 pub mod Rules

@@ -4,21 +4,20 @@ use mathlib.Core.Path.{_≡_, refl, sym, ap, ap₂, _∙_}
 use mathlib.Core.Bool.{Bool, true, false, not, _||_}
 use mathlib.Core.List.{List}
 use native.Mathlib.Omega.{arith}
-use lib.ListN.{length, getD, List·getD-eq-default}
+use lib.ListN.{length, getD}
 use lib.Dec.{eqb, ltb}
 use borrow.Author.Tests.{eq-eqb, ne-eqb, lt-ltb, le-ltb, le-leb, lt-leb, not-true, not-false}
 use Rattle.model.specs.Basics.{elim?, last}
 use Rattle.model.specs.Limits.{maxDepth, maxName, recordSize, nameWord, nextWord}
 use Rattle.model.specs.Refusals.{unsound}
-use Rattle.model.specs.Names.{Clues, cluesOf, led, isName}
+use Rattle.model.specs.Names.{Clues, led, isName}
 use Rattle.model.specs.Labels.{Label, before, shared, labelOf}
 use Rattle.model.specs.Store as model
 use Rattle.model.proofs.Faults.{rule-number}
 use Rattle.model.proofs.Kinship.{shared-low}
-use Rattle.names.specs.Answers.{childOf, lensOf}
+use Rattle.names.specs.Answers.{childOf}
 use Rattle.names.specs.declared.Child.{Child}
 use Rattle.names.specs.declared.Child.the-variants as child
-use Rattle.names.proofs.Lens.{lens-at}
 use Rattle.names.proofs.Children.{child-name, child-nowhere}
 use Rattle.records.specs.Records.{recordAt}
 use Rattle.records.proofs.Parts.{record-word, record-label, record-long}
@@ -60,14 +59,6 @@ module _ (n depth next : ℕ) where
     pub closed-clue : (depth ≡ maxDepth → ⊥) → not (eqb n 0) ≡ closedBy n depth next
     unfolding closedBy
     closed-clue h = rw (ne-eqb next 0 more, ne-eqb depth maxDepth h, or-false, or-false)
-
--- past the last length there is none
-pub len-past : (lens : List ℕ) (p : ℕ) → length lens ≤ p → 0 ≡ getD lens p 0
-len-past lens p h = sym (List·getD-eq-default lens 0 h)
-
--- a length read from those of all clues is the clue's
-pub len-is : (rows : List (List ℕ)) {lens : List ℕ} {n : ℕ} (p : ℕ) → lens ≡ lensOf rows → n ≡ getD lens p 0 → n ≡ length (cluesOf rows p)
-len-is rows p all e = e ∙ ap (λ l. getD l p 0) all ∙ lens-at rows p
 
 -- a component below a clue
 module _ (clue : List ℕ) (x name : ℕ) {c : Child} (is : c ≡ childOf (led clue x)) where

@@ -16,8 +16,8 @@ use Rattle.model.proofs.Tests.{decide}
 use Rattle.model.proofs.LabelOrder.{before-one-way, before-nonroot, above-last, extend-before, within-iff, within-self}
 use Rattle.model.proofs.Kinship.{shared-alike, shared-most}
 use Rattle.model.proofs.SoundStore.{find-mem}
+use Rattle.labels.proofs.Order.{order-none}
 use Rattle.records.specs.Records.{recordAt}
-use Rattle.soundness.proofs.Order.{order-none}
 
 -- the elements of the first r records, the last one first
 unfoldable pub behind : ℕ → List ℕ → List Element

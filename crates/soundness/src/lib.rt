@@ -1,11 +1,14 @@
 // Soundness: the first record of a store that breaks a rule, found in one pass.
 use labels::Label;
+use labels::ordered;
 use labels::shared;
 use names::Child;
 use names::MAX_NAME;
 use names::Table;
 use names::child_among;
+use names::clue_len_of;
 use names::clue_lens;
+use names::lens_slice;
 use names::table_check;
 use records::Store;
 use records::label_at;
@@ -17,7 +20,6 @@ ghost use mathlib.Core.List.{[]};
 ghost use Prim.Native.Nat.{_+_, _*_, _<_, _≤_};
 ghost use lib.ListN.{length, getD};
 ghost use Rattle.model.specs.Names.{cluesOf};
-ghost use Rattle.model.specs.Labels as labels;
 ghost use Rattle.model.specs.Store as model;
 ghost use Rattle.names.specs.Answers.{lensOf};
 ghost use Rattle.refusals.specs.Answers.{verdictOf};
@@ -84,24 +86,6 @@ fn word_fits(depth: usize, w: usize, word: u16) -> bool
     word == 0
 }
 
-// The lengths of the clues as a slice.
-fn whole(lens: &[usize; 64]) -> &[usize]
-    ensures { λ r. ⌜ now r ≡ now (lens .entry) ⌝ }
-{
-    lens
-}
-
-// How many names the clue of a name has, by the lengths of all.
-fn len_of(lens: &[usize], name: u16) -> usize
-    ensures { λ n. ⌜ n ≡ getD (now (lens .entry)) name 0 ⌝ }
-{
-    let p = name as usize;
-    if lens.len() <= p {
-        return 0;
-    }
-    lens[p]
-}
-
 // A next number is 0 if the clue is empty or the depth is 15.
 fn closed(n: usize, depth: usize, next: u16) -> bool
     ensures { λ b. ⌜ b ≡ closedBy n depth next ⌝ }
@@ -126,20 +110,6 @@ fn leads(table: &Table, parent: u16, n: usize, component: u16, name: u16) -> boo
     c as u16 == name
 }
 
-// Label order, by the part that two labels share.
-fn ordered(l: &[u16], m: &[u16], s: usize) -> bool
-    requires { ⌜ s ≡ labels.shared (now l) (now m) ⌝ }
-    ensures { λ b. ⌜ b ≡ labels.before (now (l .entry)) (now (m .entry)) ⌝ }
-{
-    if m.len() <= s {
-        return false;
-    }
-    if l.len() <= s {
-        return true;
-    }
-    l[s] < m[s]
-}
-
 // The rules of record 0 behind its layout.
 fn root_rules(table: &Table, lens: &[usize], store: &[u16]) -> Check
     requires { ⌜ (now lens ≡ lensOf (now table)) × (20 ≤ length (now store)) × (getD (now store) 0 0 ≡ 0) ⌝ }
@@ -149,7 +119,7 @@ fn root_rules(table: &Table, lens: &[usize], store: &[u16]) -> Check
     if (MAX_NAME as u16) < name {
         return Check::Broken(Rule::Name);
     }
-    if !closed(len_of(lens, name), 0, store[Store::NEXT]) {
+    if !closed(clue_len_of(lens, name as usize), 0, store[Store::NEXT]) {
         return Check::Broken(Rule::Next);
     }
     Check::Kept
@@ -174,13 +144,17 @@ fn child_rules(table: &Table, lens: &[usize], store: &[u16], r: usize, parent: u
     let up = parent * Store::RECORD_WORDS;
     let name = store[at + Store::NAME];
     let above = store[up + Store::NAME];
-    if !leads(table, above, len_of(lens, above), last, name) {
+    if !leads(table, above, clue_len_of(lens, above as usize), last, name) {
         return Check::Broken(Rule::Name);
     }
     if store[up + Store::NEXT] <= last {
         return Check::Broken(Rule::Last);
     }
-    if !closed(len_of(lens, name), s + 1, store[at + Store::NEXT]) {
+    if !closed(
+        clue_len_of(lens, name as usize),
+        s + 1,
+        store[at + Store::NEXT],
+    ) {
         return Check::Broken(Rule::Next);
     }
     Check::Kept
@@ -238,7 +212,7 @@ fn check_records(table: &Table, store: &[u16], count: usize) -> Verdict
     ensures { λ v. ⌜ v ≡ verdictOf (model.soundCheck (cluesOf (now (table .entry))) count (now (store .entry))) ⌝ }
 {
     let lens = clue_lens(table);
-    let found = first_fault(table, whole(&lens), store, count);
+    let found = first_fault(table, lens_slice(&lens), store, count);
     let Soundness::Broken(rule, place) = found else {
         return Verdict::Passed;
     };

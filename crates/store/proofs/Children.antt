@@ -1,33 +1,18 @@
 -- A child's label and record: the words of its parent's label copied, the depth and one component written.
-use Prim.Native.Nat.{ℕ, suc, _+_, _-_, _<_, _≤_}
-use mathlib.Core.Path.{_≡_, refl, sym, ap, ap₂, subst, _∙_}
+use Prim.Native.Nat.{ℕ, suc, _+_, _-_, _<_}
+use mathlib.Core.Path.{_≡_, sym, ap, ap₂, _∙_}
 use mathlib.Core.Bool.{true}
 use mathlib.Core.List.{List, [], _∷_, _++_, append-nil, append-assoc}
 use native.Mathlib.Omega.{arith}
-use native.Mathlib.Nat.{zero-add}
 use native.Mathlib.Numerals.{add-one}
-use lib.ListN.{length, getD, take, drop, set, replicate, length-append}
-use lib.Seq.{take-length, set-append-seam}
+use lib.ListN.{length, getD, drop, set, replicate, length-append}
+use lib.Seq.{set-append-seam}
+use Rattle.model.specs.Basics.{over}
 use Rattle.model.specs.Limits.{maxDepth, labelSize}
 use Rattle.model.specs.Labels.{Label, labelOf, labelWords, isLabel}
 use Rattle.model.specs.Store.{elementWords}
 use Rattle.model.proofs.LabelWords.{isLabel-iff, labelWords-labelOf}
-use Rattle.moving.proofs.Words.{paste-more}
 use Rattle.store.specs.Answers.{rootElement}
-
-module _ (d s : List ℕ) {e : List ℕ} {i : ℕ} (p : e ≡ take i s ++ drop i d) where
-  -- one more word copied
-  pub copy-more : length s ≤ length d → i < length s → set e i (getD s i 0) ≡ take (i + 1) s ++ drop (i + 1) d
-  copy-more h k =
-      subst (λ j. set e i (getD s i 0) ≡ take (i + 1) s ++ drop j d) (zero-add (i + 1))
-      (subst (λ j. set e j (getD s i 0) ≡ take (i + 1) s ++ drop (0 + (i + 1)) d) (zero-add i)
-      (paste-more d 0 s i (p ∙ ap (λ j. take i s ++ drop j d) (sym (zero-add i))) (omega arith) k refl))
-
-  -- all words copied
-  pub copy-done : i ≤ length s → length s ≤ i → e ≡ s ++ drop (length s) d
-  copy-done h k =
-      let z : i ≡ length s = omega arith in
-      p ∙ rw z (ap (λ t. t ++ drop (length s) d) (take-length s))
 
 module _ (ws : List ℕ) (good : isLabel ws ≡ true) where
   -- a label has sixteen words
@@ -56,8 +41,9 @@ child-words l x h =
     ap₂ _∷_ (sym n) (f ∙ sym (append-assoc l (x ∷ []) z) ∙ ap (λ k. l ++ (x ∷ []) ++ replicate (maxDepth - k) 0) (sym n))
 
 -- the parent's words copied, the depth and the component written
-pub label-child : (ws : List ℕ) (x : ℕ) → isLabel ws ≡ true → getD ws 0 0 < maxDepth → {to : List ℕ} → to ≡ ws ++ drop (length ws) (replicate labelSize 0) →
+pub label-child : (ws : List ℕ) (x : ℕ) → isLabel ws ≡ true → getD ws 0 0 < maxDepth → {to : List ℕ} → to ≡ over ws (replicate labelSize 0) →
     set (set to 0 (getD ws 0 0 + 1)) (getD ws 0 0 + 1) x ≡ labelWords (labelOf ws ++ (x ∷ []))
+unfolding over
 label-child ws x good h p =
     let depth = label-depth ws good in
     let same : ws ++ drop (length ws) (replicate labelSize 0) ≡ labelWords (labelOf ws) =
@@ -66,6 +52,6 @@ label-child ws x good h p =
 
 -- a label's words copied over those of the root's
 pub record-child : (label : List ℕ) (name p0 p1 : ℕ) → length label ≡ labelSize → {rec to : List ℕ} → rec ≡ elementWords (rootElement name p0 p1) →
-    to ≡ label ++ drop (length label) rec → to ≡ label ++ (name ∷ 0 ∷ p0 ∷ p1 ∷ [])
-unfolding elementWords labelWords
+    to ≡ over label rec → to ≡ label ++ (name ∷ 0 ∷ p0 ∷ p1 ∷ [])
+unfolding elementWords labelWords over
 record-child label name p0 p1 h e p = p ∙ ap₂ (λ n r. label ++ drop n r) h e

@@ -19,12 +19,13 @@ use refusals::Refusal;
 use refusals::Verdict;
 use refusals::refuse;
 use soundness::store_check;
+use words::overwrite;
 ghost use mathlib.Core.Path.{_≡_};
 ghost use mathlib.Core.Bool.{true};
 ghost use mathlib.Core.List.{[], _∷_, _++_};
 ghost use mathlib.Core.Option.{some};
 ghost use Prim.Native.Nat.{_+_, _*_, _<_, _≤_};
-ghost use lib.ListN.{length, getD, drop};
+ghost use lib.ListN.{length, getD};
 ghost use Rattle.model.specs.Limits.{labelSize, recordSize};
 ghost use Rattle.model.specs.Names.{cluesOf};
 ghost use Rattle.model.specs.Labels.{labelOf, labelWords, isLabel};
@@ -147,25 +148,13 @@ fn number_below(table: &Table, words: &[u16], a: usize, name: u8) -> Gift
     Gift::Number(x)
 }
 
-// Words copied over the front of others.
-fn copy(to: &mut [u16], from: &[u16])
-    requires { ⌜ length (now from) ≤ length (now to) ⌝ }
-    ensures { λ r. ⌜ now (to .exit) ≡ now (from .entry) ++ drop (length (now (from .entry))) (now (to .entry)) ⌝ }
-{
-    let mut i: usize = 0;
-    while i < from.len() {
-        to[i] = from[i];
-        i += 1;
-    }
-}
-
 // A child's label: the parent's and a component.
 fn child_label(parent: &[u16], x: u16) -> [u16; 16]
     requires { ⌜ (isLabel (now parent) ≡ true) × (getD (now parent) 0 0 < 15) ⌝ }
     ensures { λ r. ⌜ r ≡ labelWords (labelOf (now (parent .entry)) ++ (x ∷ [])) ⌝ }
 {
     let mut label = [0u16; 16];
-    copy(&mut label, parent);
+    overwrite(&mut label, parent);
     let depth = parent[0] + 1;
     label[0] = depth;
     label[depth as usize] = x;
@@ -185,7 +174,7 @@ fn child_record(label: &[u16], name: u8, payload: [u16; 2]) -> [u16; 20]
     ensures { λ r. ⌜ r ≡ now (label .entry) ++ (name ∷ 0 ∷ getD payload 0 0 ∷ getD payload 1 0 ∷ []) ⌝ }
 {
     let mut rec = root_record(name, payload);
-    copy(&mut rec, label);
+    overwrite(&mut rec, label);
     rec
 }
 

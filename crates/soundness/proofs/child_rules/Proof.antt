@@ -1,6 +1,8 @@
 -- `soundness::child_rules` meets its contract: the rules are tested in the paper's order.
 use borrow.Author.Needs.{needs, fits-under}
-use Rattle.soundness.proofs.Rules.{shared-few, len-is, below-order, below-parent, below-name, below-last, below-next, below-kept}
+use mir.Facts.{fits-widen}
+use Rattle.names.proofs.Lens.{len-is}
+use Rattle.soundness.proofs.Rules.{shared-few, below-order, below-parent, below-name, below-last, below-next, below-kept}
 use Rattle.soundness.proofs.child_rules.Statement.{statement}
 use Rattle.soundness.proofs.child_rules.Tie as tie
 
@@ -27,6 +29,7 @@ child-rules-spec =
     (λ c. search needs)
     (λ c. search needs)
     (λ c. search needs)
+    (λ c. fits-widen tt (c .shared-slice-known5 .given _))
     (λ c κs. search needs)
     (λ c κs. search (len-is, needs))
     (λ c. search (below-name, needs))
@@ -34,6 +37,7 @@ child-rules-spec =
     (λ c. search needs)
     (λ c. search needs)
     (λ c. search (below-last, needs))
+    (λ c. fits-widen tt (c .before .before .before .before .before .before .shared-slice-known4 .given _))
     (λ c κs. search needs)
     (λ c. search needs)
     (λ c. search needs)

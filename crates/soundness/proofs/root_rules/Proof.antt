@@ -1,6 +1,7 @@
 -- `soundness::root_rules` meets its contract: the name, then the next number.
 use borrow.Author.Needs.{needs}
-use Rattle.soundness.proofs.Rules.{len-is, root-high, root-next, root-kept}
+use Rattle.names.proofs.Lens.{len-is}
+use Rattle.soundness.proofs.Rules.{root-high, root-next, root-kept}
 use Rattle.soundness.proofs.root_rules.Statement.{statement}
 use Rattle.soundness.proofs.root_rules.Tie as tie
 
@@ -11,6 +12,7 @@ root-rules-spec =
     (λ c. search needs)
     (λ c. search needs)
     (λ c. search (root-high, needs))
+    (λ c. search needs)
     (λ c κs. search needs)
     (λ c. search needs)
     (λ c κs. search needs)

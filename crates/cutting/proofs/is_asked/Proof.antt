@@ -1,8 +1,0 @@
--- `cutting::is_asked` meets its contract: a name, or 255.
-use borrow.Author.Needs.{needs}
-use Rattle.cutting.proofs.Names.{asked-name, asked-high}
-use Rattle.cutting.proofs.is_asked.Statement.{statement}
-use Rattle.cutting.proofs.is_asked.Tie as tie
-
-pub is-asked-spec : {M : Type 1} → statement M
-is-asked-spec = tie.close (tie.spec (λ c. search (asked-name, needs)) (λ c. search (asked-high, needs)))

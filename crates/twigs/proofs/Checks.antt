@@ -1,0 +1,174 @@
+-- The checks of a twig's bytes, for each way out of their code.
+use Prim.Native.Nat.{ℕ, zero, suc, _+_, _*_, _%_, _<_, _≤_}
+use mathlib.Core.Path.{_≡_, refl, sym, ap, _∙_}
+use mathlib.Core.Bool.{Bool, true, false, not, _&&_, _||_}
+use mathlib.Core.List.{List, [], _∷_}
+use mathlib.Core.Option.{Option, none}
+use native.Mathlib.Nat.{suc-mul}
+use native.Mathlib.Numerals.{add-one, unary-clauses}
+use native.Mathlib.Omega.{arith}
+use lib.ListN.{length, getD, drop, length-drop}
+use lib.Dec.{ltb, leb, eqb}
+use borrow.Author.Tests.{eq-eqb, ne-eqb, lt-ltb, le-leb, lt-leb, not-true, not-false}
+use Rattle.model.specs.Limits.{nodeSize, maxTwig, maxName, anyName, noParent}
+use Rattle.model.specs.Refusals.{Refusal, refuse, check, first, twigLength, twigParent, twigEdge, nameAsked, twigEnd}
+use Rattle.model.specs.Names.{isName}
+use Rattle.model.specs.Twigs.{childEdge, descendantEdge, nodeAt, readTwig, parentFits, nameCheck, nodeCheck, nodesCheck, twigCheck}
+use Rattle.model.proofs.Refusals.{first-here, first-next}
+use Rattle.model.proofs.TwigBytes.{length-readTwig}
+use Rattle.refusals.specs.Answers.{verdictOf}
+use Rattle.refusals.specs.declared.Refusal as declared
+use Rattle.refusals.specs.declared.Verdict.{Verdict}
+use Rattle.refusals.specs.declared.Verdict.the-variants as verdict
+use Rattle.refusals.proofs.Verdicts.{passed-none, refused-some}
+use Rattle.twigs.specs.declared.Node.{Node}
+use Rattle.twigs.specs.Answers.{nodeOf, nodeCheckAt}
+
+module _ (n : ℕ) where
+  -- no bytes
+  pub length-none : n ≡ 0 → false ≡ (ltb 0 n && leb n maxTwig && eqb (n % nodeSize) 0)
+  length-none h = rw h
+
+  module _ (some-byte : n ≡ 0 → ⊥) where
+    -- more than 32
+    pub length-long : maxTwig < n → false ≡ (ltb 0 n && leb n maxTwig && eqb (n % nodeSize) 0)
+    length-long h = rw (lt-ltb 0 n (omega arith), lt-leb n maxTwig h)
+
+    -- else a multiple of 4 is a twig's length
+    pub length-fours : n ≤ maxTwig → eqb (n % nodeSize) 0 ≡ (ltb 0 n && leb n maxTwig && eqb (n % nodeSize) 0)
+    length-fours h = rw (lt-ltb 0 n (omega arith), le-leb n maxTwig h)
+
+-- record 0 has 255 for its parent
+pub fits-root : (q p : ℕ) → q ≡ 0 → eqb p noParent ≡ parentFits q p
+unfolding parentFits
+fits-root q p h = rw (eq-eqb _ _ h)
+
+-- another an earlier record
+pub fits-later : (q p : ℕ) → (q ≡ 0 → ⊥) → ltb p q ≡ parentFits q p
+unfolding parentFits
+fits-later q p h = rw (ne-eqb _ _ h)
+
+-- an edge to a child
+pub edge-child : (e : ℕ) → e ≡ childEdge → eqb e childEdge ≡ (eqb e childEdge || eqb e descendantEdge)
+edge-child e h = rw (eq-eqb _ _ h)
+
+-- another only to a descendant
+pub edge-other : (e : ℕ) → (e ≡ childEdge → ⊥) → eqb e descendantEdge ≡ (eqb e childEdge || eqb e descendantEdge)
+edge-other e h = rw (ne-eqb _ _ h)
+
+-- a name may be asked for
+pub asked-name : (want : ℕ) → want ≤ maxName → leb want maxName ≡ (isName want || eqb want anyName)
+unfolding isName
+asked-name want h = rw (le-leb _ _ h)
+
+-- a higher number only if it is 255
+pub asked-high : (want : ℕ) → maxName < want → eqb want anyName ≡ (isName want || eqb want anyName)
+unfolding isName
+asked-high want h = rw (lt-leb _ _ h)
+
+-- the check of the fourth byte of record q
+endCheck : List ℕ → ℕ → Option Refusal
+endCheck bytes q = check (eqb (getD bytes (q * nodeSize + 3) 0) 0) twigEnd q
+
+-- record q checked: its tests in turn
+module _ (bytes : List ℕ) (q : ℕ) {node : Node} (read : node ≡ nodeOf (nodeAt (readTwig bytes) q)) {fit : Bool} (fits : fit ≡ parentFits q (node .parent)) where
+  -- first comes the parent's
+  parent-next : nodeCheckAt bytes q ≡
+      first (check fit twigParent q ∷ check (eqb (node .edge) childEdge || eqb (node .edge) descendantEdge) twigEdge q ∷ nameCheck (node .name) q ∷ endCheck bytes q ∷ [])
+  unfolding nodeCheckAt nodeCheck endCheck
+  parent-next = rw (fits, read)
+
+  -- a parent that does not fit
+  pub parent-refused : not fit ≡ true → {v : Verdict} → v ≡ verdictOf (refuse twigParent q) → v ≡ verdictOf (nodeCheckAt bytes q)
+  unfolding check first
+  parent-refused e f = f ∙ rw (parent-next, not-true fit e)
+
+  module _ (fitting : not fit ≡ false) {edge : Bool} (edges : edge ≡ (eqb (node .edge) childEdge || eqb (node .edge) descendantEdge)) where
+    -- then the edge's
+    edge-next : nodeCheckAt bytes q ≡ first (check edge twigEdge q ∷ nameCheck (node .name) q ∷ endCheck bytes q ∷ [])
+    unfolding check first
+    edge-next = parent-next ∙ rw (not-false fit fitting, edges)
+
+    -- an edge that is none
+    pub edge-refused : not edge ≡ true → {v : Verdict} → v ≡ verdictOf (refuse twigEdge q) → v ≡ verdictOf (nodeCheckAt bytes q)
+    unfolding check first
+    edge-refused e f = f ∙ rw (edge-next, not-true edge e)
+
+    module _ (edged : not edge ≡ false) {name : Bool} (names : name ≡ (isName (node .name) || eqb (node .name) anyName)) where
+      -- then the name's
+      name-next : nodeCheckAt bytes q ≡ first (check name nameAsked q ∷ endCheck bytes q ∷ [])
+      unfolding check first nameCheck
+      name-next = edge-next ∙ rw (not-false edge edged, names)
+
+      -- a name that may not be asked for
+      pub name-refused : not name ≡ true → {v : Verdict} → v ≡ verdictOf (refuse nameAsked q) → v ≡ verdictOf (nodeCheckAt bytes q)
+      unfolding check first
+      name-refused e f = f ∙ rw (name-next, not-true name e)
+
+      module _ (named : not name ≡ false) where
+        -- a fourth byte that is not 0
+        pub end-refused : (getD bytes (q * nodeSize + 3) 0 ≡ 0 → ⊥) → {v : Verdict} → v ≡ verdictOf (refuse twigEnd q) → v ≡ verdictOf (nodeCheckAt bytes q)
+        unfolding check first endCheck
+        end-refused e f = f ∙ rw (name-next, not-false name named, ne-eqb _ _ e)
+
+        -- a record that is not ruled out
+        pub node-passed : getD bytes (q * nodeSize + 3) 0 ≡ 0 → verdict.Passed ≡ verdictOf (nodeCheckAt bytes q)
+        unfolding check first endCheck
+        node-passed e = rw (name-next, not-false name named, eq-eqb _ _ e)
+
+-- fewer than four bytes are no record
+nodes-short : (i : ℕ) (bytes : List ℕ) → length bytes < nodeSize → nodesCheck i bytes ≡ none
+unfolding nodesCheck
+nodes-short i [] h = refl
+nodes-short i (p ∷ []) h = refl
+nodes-short i (p ∷ e ∷ []) h = refl
+nodes-short i (p ∷ e ∷ n ∷ []) h = refl
+nodes-short i (p ∷ e ∷ n ∷ z ∷ bytes) h = absurd (omega arith)
+
+-- the records from number q on are record q and those from the next on
+nodes-from : (i q : ℕ) (bytes : List ℕ) → q * nodeSize + 3 < length bytes → let n = nodeAt (readTwig bytes) q in
+    nodesCheck i (drop (q * nodeSize) bytes) ≡
+    first (nodeCheck i (n .parent) (n .edge) (n .name) (getD bytes (q * nodeSize + 3) 0) ∷ nodesCheck (suc i) (drop (suc q * nodeSize) bytes) ∷ [])
+unfolding nodesCheck readTwig
+nodes-from i q [] k = absurd (omega arith)
+nodes-from i q (p ∷ []) k = absurd (omega arith)
+nodes-from i q (p ∷ e ∷ []) k = absurd (omega arith)
+nodes-from i q (p ∷ e ∷ n ∷ []) k = absurd (omega arith)
+nodes-from i zero (p ∷ e ∷ n ∷ z ∷ bytes) k = refl
+nodes-from i (suc q) (p ∷ e ∷ n ∷ z ∷ bytes) k = simp (unary-clauses, suc-mul) (simp (unary-clauses, suc-mul) at (nodes-from i q bytes (omega arith)))
+
+-- a twig checked: the records before q passed
+abbrev pub Checked : List ℕ → ℕ → Type 0
+Checked bytes q = nodesCheck 0 bytes ≡ nodesCheck q (drop (q * nodeSize) bytes)
+
+module _ (bytes : List ℕ) {b : Bool} (is : b ≡ (ltb 0 (length bytes) && leb (length bytes) maxTwig && eqb (length bytes % nodeSize) 0)) where
+  -- a length that is no twig's
+  pub length-refused : not b ≡ true → {v : Verdict} → v ≡ verdictOf (refuse twigLength 0) → v ≡ verdictOf (twigCheck bytes)
+  unfolding twigCheck check first
+  length-refused e f = f ∙ rw (← is, not-true b e)
+
+  module _ (long : not b ≡ false) (q : ℕ) (inv : Checked bytes q) where
+    -- the records decide about a twig of a good length
+    by-records : twigCheck bytes ≡ nodesCheck q (drop (q * nodeSize) bytes)
+    unfolding twigCheck check
+    by-records = first-next _ _ (rw (← is, not-false b long)) ∙ inv
+
+    -- every record passed
+    pub twig-passed : {n : ℕ} → n ≡ length (readTwig bytes) → n ≤ q → verdict.Passed ≡ verdictOf (twigCheck bytes)
+    twig-passed e h = ap verdictOf (sym (by-records ∙ nodes-short q _ (omega (arith, length-drop (q * nodeSize) bytes, length-readTwig bytes))))
+
+    -- record q did not
+    pub node-refused : {n : ℕ} → n ≡ length (readTwig bytes) → q < n → {v : Verdict} {x : declared.Refusal} → v ≡ verdict.Refused x → v ≡ verdictOf (nodeCheckAt bytes q) →
+        v ≡ verdictOf (twigCheck bytes)
+    unfolding nodeCheckAt
+    node-refused e h refused checked =
+        let (r, ruled) = refused-some (nodeCheckAt bytes q) checked refused in
+        checked ∙ ap verdictOf (ruled ∙ sym (by-records ∙ nodes-from q q bytes (omega (arith, length-readTwig bytes)) ∙ first-here r _ _ ruled))
+
+-- record q passed, and the next comes
+pub checked-on : (bytes : List ℕ) (q : ℕ) → Checked bytes q → {n : ℕ} → n ≡ length (readTwig bytes) → q < n →
+    {v : Verdict} → v ≡ verdict.Passed → v ≡ verdictOf (nodeCheckAt bytes q) → Checked bytes (q + 1)
+unfolding nodeCheckAt
+checked-on bytes q inv e h passed checked =
+    inv ∙ nodes-from q q bytes (omega (arith, length-readTwig bytes)) ∙ first-next _ _ (passed-none (nodeCheckAt bytes q) checked passed) ∙
+    rw add-one

@@ -1,0 +1,8 @@
+-- `twigs::is_asked` meets its contract: a name, or 255.
+use borrow.Author.Needs.{needs}
+use Rattle.twigs.proofs.Checks.{asked-name, asked-high}
+use Rattle.twigs.proofs.is_asked.Statement.{statement}
+use Rattle.twigs.proofs.is_asked.Tie as tie
+
+pub is-asked-spec : {M : Type 1} → statement M
+is-asked-spec = tie.close (tie.spec (λ c. search (asked-name, needs)) (λ c. search (asked-high, needs)))
