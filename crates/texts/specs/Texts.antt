@@ -1,0 +1,37 @@
+-- Bytes written into a text, and the matches that words hold.
+use mathlib.Core.List.{List, [], _∷_, _++_}
+use Prim.Native.Nat.{ℕ, zero, suc, _+_, _*_, _<_, _≤_}
+use lib.ListN.{length, getD, take, drop}
+use Rattle.model.specs.Limits.{maxDepth, labelSize}
+use Rattle.model.specs.Matches.{Match}
+use Rattle.model.specs.Matching.{labelsIn}
+use Rattle.model.specs.Printing.{text, decimal}
+
+-- bytes written into a text from a position on: what stands before and behind them is as it was
+unfoldable pub written : ℕ → List ℕ → List ℕ → List ℕ
+written at bytes text = take at text ++ (bytes ++ drop (at + length bytes) text)
+
+-- a line with a number
+abbrev pub numberLine : ℕ → List ℕ
+numberLine n = decimal n ++ text "\n"
+
+-- the matches that words hold, k labels each
+unfoldable pub matchesIn : ℕ → ℕ → List ℕ → List Match
+matchesIn k zero ws = []
+matchesIn k (suc n) ws = labelsIn k ws ∷ matchesIn k n (drop (labelSize * k) ws)
+
+-- each of the first n labels of words has a depth of at most 15
+abbrev pub Depths : ℕ → List ℕ → Type 0
+Depths n ws = (i : ℕ) → i < n → getD ws (labelSize * i) 0 ≤ maxDepth
+
+-- the most bytes of a label and of what parts it from the next: fifteen components of five digits, a byte behind each
+abbrev pub labelRoom : ℕ
+labelRoom = 90
+
+-- the most bytes of the line of a count: twenty digits and a newline
+abbrev pub countRoom : ℕ
+countRoom = 21
+
+-- bytes enough for a refusal
+abbrev pub refusalRoom : ℕ
+refusalRoom = 64
