@@ -1,0 +1,67 @@
+-- Names led on along a label: those before an index are the names along as many of its components.
+use Prim.Native.Nat.{ℕ, _+_, _<_, _≤_}
+use mathlib.Core.Path.{_≡_, sym, ap, _∙_}
+use mathlib.Core.Bool.{true, false}
+use mathlib.Core.List.{List, [], _∷_, _++_}
+use mathlib.Core.Option.{some, Option·some-injective}
+use native.Mathlib.Omega.{arith}
+use native.Mathlib.Numerals.{add-one}
+use lib.ListN.{length, getD, take, drop, set, take-append-drop}
+use lib.Seq.{take-all, take-suc, take-suc-set, length-take-le}
+use Rattle.model.specs.Basics.{elim?, last}
+use Rattle.model.specs.Names.{Clues, led}
+use Rattle.model.specs.Labels.{Label, path, stuck, decode}
+use Rattle.model.proofs.Decode.{further, decode-snoc, decode-child, stuck-more, name-end}
+use Rattle.names.specs.Answers.{childOf}
+use Rattle.names.specs.declared.Child.{Child}
+use Rattle.names.specs.declared.Child.the-variants as child
+use Rattle.names.proofs.Children.{child-name, child-nowhere}
+use Rattle.streams.specs.Streams.{Along, leadsOn}
+use Rattle.streams.proofs.Streams.{along-name}
+
+module _ (cl : Clues) (root : ℕ) (l : Label) (j : ℕ) (ns : List ℕ) (along : Along cl root (take j l) ns) where
+  module _ (h : length l ≤ j) where
+    -- at the end they are the names along the whole label
+    pub lead-along : Along cl root l ns
+    lead-along = let all : take j l ≡ l = take-all j l h in ap (decode cl root) (sym all) ∙ along ∙ ap (λ m. path (take (length m + 1) ns)) all
+
+    -- which so decodes to names all along
+    pub lead-end : true ≡ leadsOn (decode cl root l)
+    unfolding leadsOn
+    lead-end = rw lead-along
+
+  module _ (h : j < length l) where
+    -- so many components have names
+    long : length (take j l) ≡ j
+    long = length-take-le j l (omega arith)
+
+    -- the name reached
+    reached : last (take (length (take j l) + 1) ns) ≡ getD ns j 0
+    reached =
+        Option·some-injective _ _ (sym (name-end cl root (take j l) _ along) ∙ along-name cl root (take j l) ns along) ∙ ap (λ i. getD ns i 0) long
+
+    -- one component more
+    next : take (j + 1) l ≡ take j l ++ (getD l j 0 ∷ [])
+    next = ap (λ n. take n l) (add-one j) ∙ take-suc l j 0 h
+
+    module _ {x : Child} (is : x ≡ childOf (led (cl (getD ns j 0)) (getD l j 0))) where
+      -- a component that leads nowhere
+      pub lead-stuck : x ≡ child.Nowhere → false ≡ leadsOn (decode cl root l)
+      unfolding leadsOn further elim?
+      lead-stuck e =
+          let now : decode cl root (take (j + 1) l) ≡ stuck (length (take (length (take j l) + 1) ns)) =
+          ap (decode cl root) next ∙ decode-snoc cl root (take j l) (getD l j 0) ∙
+          rw (along, reached, ← child-nowhere (led (cl (getD ns j 0)) (getD l j 0)) is e) in
+          let all : decode cl root l ≡ stuck (length (take (length (take j l) + 1) ns)) =
+          ap (decode cl root) (sym (take-append-drop (j + 1) l)) ∙ stuck-more cl root (take (j + 1) l) (drop (j + 1) l) _ now in
+          rw all
+
+      -- one that leads to a name, which is written behind the others
+      pub lead-next : {c : ℕ} → x ≡ child.Name c → length l < length ns → Along cl root (take (j + 1) l) (set ns (j + 1) c)
+      lead-next {c} e room =
+          let leads : led (cl (last (take (length (take j l) + 1) ns))) (getD l j 0) ≡ some c =
+          ap (λ n. led (cl n) (getD l j 0)) reached ∙ sym (child-name _ is e) in
+          let more : length (take (j + 1) l) ≡ j + 1 = length-take-le (j + 1) l (omega arith) in
+          ap (decode cl root) next ∙ decode-child cl root (take j l) _ (getD l j 0) c along leads ∙
+          ap path (ap (λ i. take (i + 1) ns ++ (c ∷ [])) long ∙ sym (take-suc-set ns (j + 1) c (omega arith)) ∙
+          ap (λ i. take i (set ns (j + 1) c)) (sym (add-one (j + 1)) ∙ ap (λ i. i + 1) (sym more)))

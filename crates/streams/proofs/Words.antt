@@ -1,0 +1,56 @@
+-- The labels of a stream in its words: what each way out of the code on one of them tells.
+use Prim.Native.Nat.{ℕ, zero, suc, _+_, _-_, _*_, _<_}
+use mathlib.Core.Path.{_≡_, refl, ap, _∙_}
+use mathlib.Core.Bool.{Bool, true, _||_}
+use mathlib.Core.List.{List, [], _∷_}
+use native.Mathlib.Omega.{arith}
+use native.Mathlib.Nat.{not-suc-le-zero, le-of-suc-le-suc}
+use lib.ListN.{length, getD, take, drop}
+use lib.Seq.{drop-drop}
+use lib.Dec.{eqb}
+use borrow.Author.Tests.{eq-eqb, ne-eqb}
+use Rattle.model.specs.Basics.{elim?}
+use Rattle.model.specs.Limits.{labelSize}
+use Rattle.model.specs.Labels.{Label, before, labelOf, isLabel}
+use Rattle.model.specs.Matching.{labelsIn}
+use Rattle.model.proofs.Buffers.{labelsIn-words}
+use Rattle.streams.specs.Streams.{wordsAt, labelAt, previousAt, labelBefore, Stood}
+
+-- the words of a label are lent as a part
+pub words-are : (ws : List ℕ) (i : ℕ) → take (i * labelSize + labelSize - i * labelSize) (drop (i * labelSize) ws) ≡ wordsAt i ws
+unfolding wordsAt
+words-are ws i = let e : i * labelSize + labelSize - i * labelSize ≡ labelSize = omega arith in rw e
+
+-- before the first label stands the root's
+pub before-first : (ws : List ℕ) (i : ℕ) → i ≡ 0 → [] ≡ labelBefore i ws
+unfolding labelBefore previousAt elim?
+before-first ws i e = rw e
+
+-- before another one the label of the words before its own
+pub before-other : (ws : List ℕ) (i : ℕ) → (i ≡ 0 → ⊥) → {l : Label} {vs : List ℕ} → vs ≡ wordsAt (i - 1) ws → l ≡ labelOf vs → l ≡ labelBefore i ws
+unfolding labelBefore previousAt elim?
+before-other ws zero n e f = absurd (n refl)
+before-other ws (suc i) n e f = let z : suc i - 1 ≡ i = omega arith in f ∙ ap labelOf e ∙ ap (λ j. labelAt j ws) z
+
+-- which are a label
+pub before-label : (ws : List ℕ) (i : ℕ) → Stood i ws → (i ≡ 0 → ⊥) → {vs : List ℕ} → vs ≡ wordsAt (i - 1) ws → isLabel vs ≡ true
+before-label ws i stood n e = ap isLabel e ∙ stood n
+
+-- the first label may always stand
+pub later-first : (i : ℕ) (l m : Label) → i ≡ 0 → eqb i 0 ≡ (eqb i 0 || before l m)
+later-first i l m e = rw (eq-eqb _ _ e)
+
+-- another one is asked for its order
+pub later-other : (i : ℕ) (l m : Label) → (i ≡ 0 → ⊥) → {b : Bool} → b ≡ before l m → b ≡ (eqb i 0 || before l m)
+later-other i l m n e = rw (ne-eqb _ _ n) e
+
+-- label i of them is that of its words
+pub labels-at : (n : ℕ) (ws : List ℕ) (i : ℕ) → i < n → getD (labelsIn n ws) i [] ≡ labelAt i ws
+unfolding wordsAt
+labels-at = labelsIn-words
+
+-- so is the one before it
+pub labels-before : (n : ℕ) (ws : List ℕ) (i : ℕ) → i < n → getD ([] ∷ labelsIn n ws) i [] ≡ labelBefore i ws
+unfolding labelBefore previousAt elim?
+labels-before n ws zero h = refl
+labels-before n ws (suc i) h = labels-at n ws i (omega arith)

@@ -1,0 +1,158 @@
+// Streams: the check of one stream of labels, in one pass that decodes only what changed from label to label.
+use labels::Label;
+use labels::components;
+use labels::is_label;
+use labels::ordered;
+use labels::shared;
+use names::Child;
+use names::Table;
+use names::asks;
+use names::child_among;
+use names::clue_len_of;
+use refusals::Refusal;
+use refusals::Verdict;
+use refusals::refuse;
+ghost use mathlib.Core.Path.{_≡_};
+ghost use mathlib.Core.Bool.{true, _||_};
+ghost use mathlib.Core.Option.{none};
+ghost use Prim.Native.Nat.{_+_, _*_, _<_, _≤_};
+ghost use lib.ListN.{length, getD, take};
+ghost use lib.Seq.{paste};
+ghost use lib.Dec.{eqb};
+ghost use Rattle.model.specs.Names.{cluesOf};
+ghost use Rattle.model.specs.Labels as model;
+ghost use Rattle.model.specs.Matching.{labelsIn, streamCheck};
+ghost use Rattle.names.specs.Answers.{lensOf};
+ghost use Rattle.refusals.specs.Answers.{verdictOf};
+ghost use Rattle.refusals.specs.declared.Verdict.the-variants as verdict;
+ghost use Rattle.streams.specs.Streams.{sharesOf, Along, Paths, leadsOn, wordsAt, labelAt, labelBefore, standsAt, Stood};
+ghost use Rattle.streams.specs.Answers.{linkOf};
+
+// A label of a stream: how many components it shares with the one before it, or that it may not stand there.
+pub enum Link {
+    Shares(usize),
+    RuledOut,
+}
+
+// The words of label i of a stream.
+fn words_at(stream: &[u16], i: usize) -> &[u16]
+    requires { ⌜ i * 16 + 16 ≤ length (now stream) ⌝ }
+    ensures { λ r. ⌜ now r ≡ wordsAt i (now (stream .entry)) ⌝ }
+{
+    let at = i * Label::WORDS;
+    &stream[at..at + Label::WORDS]
+}
+
+// The label before label i of a stream, the root's for the first.
+fn label_before(stream: &[u16], i: usize) -> &[u16]
+    requires { ⌜ (i * 16 + 16 ≤ length (now stream)) × Stood i (now stream) ⌝ }
+    ensures { λ r. ⌜ now r ≡ labelBefore i (now (stream .entry)) ⌝ }
+{
+    if i == 0 {
+        return &stream[..0];
+    }
+    components(words_at(stream, i - 1))
+}
+
+// Names that begin with those along the first s components of a label, led on along the others; false where a clue is empty.
+fn lead_on(table: &Table, lens: &[usize], label: &[u16], s: usize, names: &mut [u8]) -> bool
+    requires { ⌜ (now lens ≡ lensOf (now table)) × (s ≤ length (now label)) × (length (now label) < length (now names)) × Along (cluesOf (now table)) (getD (now names) 0 0) (take s (now label)) (now names) ⌝ }
+    ensures { λ b. ⌜ b ≡ leadsOn (model.decode (cluesOf (now (table .entry))) (getD (now (names .entry)) 0 0) (now (label .entry))) ⌝ }
+    ensures { λ b. ⌜ length (now (names .exit)) ≡ length (now (names .entry)) ⌝ }
+    ensures { λ b. ⌜ (b ≡ true → Along (cluesOf (now (table .entry))) (getD (now (names .entry)) 0 0) (now (label .entry)) (now (names .exit))) ⌝ }
+{
+    let mut j = s;
+    while j < label.len() {
+        let parent = names[j] as usize;
+        let Child::Name(c) = child_among(table, parent, clue_len_of(lens, parent), label[j]) else {
+            return false;
+        };
+        j += 1;
+        names[j] = c;
+    }
+    true
+}
+
+// Label i may stand behind the one before it, with which it shares s components.
+fn is_later(i: usize, previous: &[u16], label: &[u16], s: usize) -> bool
+    requires { ⌜ s ≡ model.shared (now previous) (now label) ⌝ }
+    ensures { λ b. ⌜ b ≡ (eqb i 0 || model.before (now (previous .entry)) (now (label .entry))) ⌝ }
+{
+    i == 0 || ordered(previous, label, s)
+}
+
+// Label i of a stream, read behind the one before it: the names along it take the place of those along that one.
+fn read_label(
+    table: &Table,
+    lens: &[usize],
+    want: u8,
+    stream: &[u16],
+    i: usize,
+    names: &mut [u8],
+) -> Link
+    requires { ⌜ (now lens ≡ lensOf (now table)) × (i * 16 + 16 ≤ length (now stream)) × (length (now names) ≡ 16) × Stood i (now stream) × Along (cluesOf (now table)) (getD (now names) 0 0) (labelBefore i (now stream)) (now names) ⌝ }
+    ensures { λ k. ⌜ k ≡ linkOf (standsAt (cluesOf (now (table .entry))) (getD (now (names .entry)) 0 0) want i (now (stream .entry))) (model.shared (labelBefore i (now (stream .entry))) (labelAt i (now (stream .entry)))) ⌝ }
+    ensures { λ k. ⌜ length (now (names .exit)) ≡ 16 ⌝ }
+    ensures { λ k. ⌜ (standsAt (cluesOf (now (table .entry))) (getD (now (names .entry)) 0 0) want i (now (stream .entry)) ≡ true → Along (cluesOf (now (table .entry))) (getD (now (names .entry)) 0 0) (labelAt i (now (stream .entry))) (now (names .exit))) ⌝ }
+{
+    let words = words_at(stream, i);
+    if !is_label(words) {
+        return Link::RuledOut;
+    }
+    let label = components(words);
+    let previous = label_before(stream, i);
+    let s = shared(previous, label);
+    if !is_later(i, previous, label, s) {
+        return Link::RuledOut;
+    }
+    if !lead_on(table, lens, label, s, names) {
+        return Link::RuledOut;
+    }
+    if !asks(want, names[label.len()] as u16) {
+        return Link::RuledOut;
+    }
+    Link::Shares(s)
+}
+
+// Sixteen names, written to the places of label i.
+fn write_names(names: &[u8], paths: &mut [u8], i: usize)
+    requires { ⌜ (length (now names) ≡ 16) × (i * 16 + 16 ≤ length (now paths)) ⌝ }
+    ensures { λ u. ⌜ now (paths .exit) ≡ paste (now (paths .entry)) (i * 16) (now (names .entry)) 16 ⌝ }
+{
+    let mut j: usize = 0;
+    while j < Label::WORDS {
+        paths[i * Label::WORDS + j] = names[j];
+        j += 1;
+    }
+}
+
+// The check of a stream, whose first label is label `base` of its buffer. One that passes leaves in `shares` how many
+// components each label shares with the one before it, and in `paths`, sixteen places for each, the names along it.
+pub fn check_stream(
+    table: &Table,
+    lens: &[usize],
+    root: u8,
+    want: u8,
+    base: usize,
+    stream: &[u16],
+    shares: &mut [u8],
+    paths: &mut [u8],
+) -> Verdict
+    requires { ⌜ (now lens ≡ lensOf (now table)) × (length (now stream) ≡ length (now shares) * 16) × (length (now shares) * 16 ≤ length (now paths)) × (length (now shares) ≤ 4096) × (base ≤ 32768) ⌝ }
+    ensures { λ v. ⌜ v ≡ verdictOf (streamCheck (cluesOf (now (table .entry))) root want base none (length (now (shares .entry))) (now (stream .entry))) ⌝ }
+    ensures { λ v. ⌜ (length (now (shares .exit)) ≡ length (now (shares .entry))) × (length (now (paths .exit)) ≡ length (now (paths .entry))) ⌝ }
+    ensures { λ v. ⌜ (v ≡ verdict.Passed → (now (shares .exit) ≡ sharesOf (labelsIn (length (now (shares .entry))) (now (stream .entry)))) × Paths (cluesOf (now (table .entry))) root (labelsIn (length (now (shares .entry))) (now (stream .entry))) (now (paths .exit))) ⌝ }
+{
+    let mut names = [0u8; 16];
+    names[0] = root;
+    let mut i: usize = 0;
+    while i < shares.len() {
+        let Link::Shares(s) = read_label(table, lens, want, stream, i, &mut names) else {
+            return refuse(Refusal::BAD_STREAM, base + i);
+        };
+        shares[i] = s as u8;
+        write_names(&names, paths, i);
+        i += 1;
+    }
+    Verdict::Passed
+}
