@@ -36,7 +36,7 @@ within-length up low h = let (rest, e) = within-iff up low .0 h in omega (arith,
 module _ (cl : Clues) (root : ℕ) (t : Twig) (good : GoodTwig t) (streams : List (List Label))
     (labelled : (i : ℕ) (l : Label) → l ∈ getD streams i [] → GoodLabel l) where
   -- every label of a match has at most 15 components, since a leaf's label below it has
-  match-short : (m : Match) → IsMatch cl root t streams m → (l : Label) → l ∈ m → length l ≤ maxDepth
+  pub match-short : (m : Match) → IsMatch cl root t streams m → (l : Label) → l ∈ m → length l ≤ maxDepth
   match-short m h l k =
       let (i, p, e) = member-at [] m l .0 k in
       let (j, q, leaf, w) = leaf-below t good m (h .hung) i (omega (arith, h .whole)) in

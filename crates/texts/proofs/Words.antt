@@ -13,7 +13,6 @@ use Rattle.model.specs.Basics.{_∈_, joined}
 use Rattle.model.specs.Limits.{maxDepth, labelSize}
 use Rattle.model.specs.Labels.{Label, labelWords}
 use Rattle.model.specs.Matches.{Match, labelsWords, matchWords}
-use Rattle.model.specs.Matching.{labelsIn}
 use Rattle.model.proofs.Lists.{here, there}
 use Rattle.model.proofs.LabelWords.{length-labelWords}
 use Rattle.model.proofs.MatchWords.{length-labelsWords, length-matchWords}
