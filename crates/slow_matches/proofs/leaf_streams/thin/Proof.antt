@@ -1,0 +1,28 @@
+-- `slow_matches::leaf_streams::thin` ends: it counts up to the labels that stay.
+use borrow.Author.Needs.{needs}
+use Prim.Native.Nat.{_-_, _≤_}
+use mathlib.Core.Path.{_≡_}
+use lib.ListN.{length}
+use Rattle.slow_matches.proofs.leaf_streams.thin.Statement.{statement}
+use Rattle.slow_matches.proofs.leaf_streams.thin.Tie as tie
+
+abbrev Inv-loop : tie.InvT-loop
+Inv-loop words₀ count half i₀ words i = (length words ≡ length words₀) × (i ≤ half)
+
+abbrev μ-loop : tie.MeasureT-loop
+μ-loop words₀ count half i₀ words i = half - i
+
+pub thin-spec : {M : Type 1} → statement M
+thin-spec =
+    tie.close
+    (tie.spec
+    Inv-loop
+    μ-loop
+    (λ c. search needs)
+    (λ c κs. search needs)
+    (λ c κs. search needs)
+    (λ c. search needs)
+    (λ c. search needs)
+    (λ c. search needs)
+    (λ c. search needs)
+    (λ c. search needs))
