@@ -1,0 +1,71 @@
+-- Cutting from a store that was accepted: it refuses for want of room alone, and otherwise writes the stream.
+-- Assumes nothing.
+use Prim.Native.Nat.{ℕ, _<_, _≤_}
+use mathlib.Core.Path.{_≡_, ap, _∙_}
+use mathlib.Core.List.{List}
+use mathlib.Core.Option.{none}
+use lib.ListN.{length}
+use Rattle.model.specs.Basics.{_∈_, over}
+use Rattle.model.specs.Limits.{maxDepth}
+use Rattle.model.specs.Refusals.{refuse, shortOutput}
+use Rattle.model.specs.Names.{cluesOf}
+use Rattle.model.specs.Labels.{Label}
+use Rattle.model.specs.Twigs.{nameCheck}
+use Rattle.model.specs.Matches.{labelsWords}
+use Rattle.model.specs.Store.{elements, rootOf}
+use Rattle.model.specs.Cutting as model
+use Rattle.model.proofs.Refusals.{first-rest, first-last}
+use Rattle.model.proofs.SoundStore.{SoundElements}
+use Rattle.model.proofs.StreamWords.{for-stream}
+use Rattle.model.proofs.Listings.{listed-refusal, listed-whole}
+use Rattle.model.proofs.Demand2.{store-elements}
+use Rattle.refusals.specs.Answers.{verdictOf, filled, listingOf}
+use Rattle.refusals.specs.declared.Listing.{Listing}
+use Rattle.refusals.specs.declared.Refusal as declared
+use Rattle.refusals.specs.declared.Verdict.the-variants as verdict
+use Rattle.refusals.proofs.Verdicts.{passed-none}
+use Rattle.printing.specs.Streams.{Accepted}
+use Rattle.printing.proofs.Rooms.{room-iff, room-refused}
+
+-- the stream of a name in the records of a store
+abbrev pub streamIn : List ℕ → ℕ → ℕ → List Label
+streamIn ws count want = model.stream want (elements count ws)
+
+module _ {rows : List (List ℕ)} {ws : List ℕ} {count : ℕ} (store : Accepted rows ws count) where
+  -- the elements are sound
+  pub elements-sound : SoundElements (cluesOf rows) (rootOf ws) (elements count ws)
+  elements-sound = store-elements (cluesOf rows) ws count (store .size) (store .sound)
+
+  -- a label of a stream fits its words
+  pub stream-short : (want : ℕ) (l : Label) → l ∈ streamIn ws count want → length l ≤ maxDepth
+  stream-short want = for-stream (λ l. length l ≤ maxDepth) want (elements count ws) (λ e m a. elements-sound .labelled e m .shallow)
+
+  -- of the checks of cutting only that of the output can refuse
+  cut-refusal : (want : ℕ) (out : List ℕ) → nameCheck want 0 ≡ none →
+      model.cutRefusal rows ws count want out ≡ model.roomCheck (labelsWords (streamIn ws count want)) out
+  unfolding model.cutRefusal
+  cut-refusal want out name =
+      first-rest _ _ (store .table) ∙ first-rest _ _ (store .size) ∙ first-rest _ _ (store .sound) ∙ first-rest _ _ name ∙ first-last _
+
+  -- what cutting by a name that may be asked for answers and leaves
+  module _ (want : ℕ) (out : List ℕ) (name : nameCheck want 0 ≡ none) {a : Listing} {left : List ℕ}
+      (cut : filled a left ≡ listingOf (model.cut rows ws count want out)) where
+    -- the verdict is that on the output
+    cut-verdict : a .verdict ≡ verdictOf (model.roomCheck (labelsWords (streamIn ws count want)) out)
+    unfolding model.cut
+    cut-verdict = ap (λ f. f .answer .verdict) cut ∙ ap verdictOf (listed-refusal _ _ _ _ ∙ cut-refusal want out name)
+
+    -- a refusal tells that there is no room
+    pub cut-over : {x : declared.Refusal} → a .verdict ≡ verdict.Refused x →
+        (length out < length (labelsWords (streamIn ws count want))) × (a .verdict ≡ verdictOf (refuse shortOutput 0))
+    cut-over f = room-refused (labelsWords (streamIn ws count want)) out cut-verdict f
+
+    module _ (passed : a .verdict ≡ verdict.Passed) where
+      -- there was room
+      pub cut-fitted : length (labelsWords (streamIn ws count want)) ≤ length out
+      cut-fitted = room-iff _ out .0 (passed-none _ cut-verdict passed)
+
+      -- the stream was written
+      pub cut-done : filled a left ≡ filled (record { verdict = verdict.Passed; count = length (streamIn ws count want) }) (over (labelsWords (streamIn ws count want)) out)
+      unfolding model.cut
+      cut-done = cut ∙ ap listingOf (listed-whole _ _ _ out (cut-refusal want out name ∙ passed-none _ cut-verdict passed))

@@ -1,0 +1,56 @@
+-- Words written to an output: the check of its room, and that they stand at its start.
+-- Assumes nothing.
+use Prim.Native.Nat.{ℕ, _*_, _<_, _≤_}
+use mathlib.Core.Path.{_≡_, sym, ap, _∙_}
+use mathlib.Core.Logic.{_↔_, by-cases}
+use mathlib.Core.List.{List}
+use mathlib.Core.Option.{none, Option·none-ne-some}
+use native.Mathlib.Decide.{decLt}
+use native.Mathlib.Omega.{arith}
+use lib.ListN.{length, take, drop, length-append}
+use lib.Dec.{leb→le, le→leb}
+use borrow.Author.Tests.{le-leb, lt-leb}
+use Rattle.model.specs.Basics.{over}
+use Rattle.model.specs.Refusals.{refuse, check, shortOutput}
+use Rattle.model.specs.Cutting.{roomCheck}
+use Rattle.model.specs.Printing.{bufferCheck}
+use Rattle.model.proofs.Refusals.{check-iff, check-failed}
+use Rattle.model.proofs.Sizes.{take-over}
+use Rattle.refusals.specs.Answers.{verdictOf}
+use Rattle.refusals.specs.declared.Refusal as declared
+use Rattle.refusals.specs.declared.Verdict.{Verdict}
+use Rattle.refusals.specs.declared.Verdict.the-variants as verdict
+use Rattle.refusals.proofs.Verdicts.{refused-some}
+
+-- words have room in an output exactly if they are no more
+pub room-iff : (ws out : List ℕ) → roomCheck ws out ≡ none ↔ (length ws ≤ length out)
+unfolding roomCheck
+room-iff ws out = check-iff _ shortOutput 0 (leb→le (length ws) (length out), le→leb (length ws) (length out))
+
+-- more are refused
+pub room-failed : (ws out : List ℕ) → length out < length ws → roomCheck ws out ≡ refuse shortOutput 0
+unfolding roomCheck
+room-failed ws out h = check-failed _ shortOutput 0 (λ t. omega (arith, leb→le (length ws) (length out) t))
+
+-- a refusal for want of room
+pub room-refused : (ws out : List ℕ) {v : Verdict} {x : declared.Refusal} → v ≡ verdictOf (roomCheck ws out) → v ≡ verdict.Refused x →
+    (length out < length ws) × (v ≡ verdictOf (refuse shortOutput 0))
+room-refused ws out is e = by-cases (decLt (length out) (length ws))
+    (λ h. (h, is ∙ ap verdictOf (room-failed ws out h)))
+    (λ h. let (r, f) = refused-some _ is e in absurd (Option·none-ne-some r (sym (room-iff ws out .1 (omega arith)) ∙ f)))
+
+-- an output of 32,000 words is a buffer of 64,000 bytes
+pub room-buffer : (ws out : List ℕ) → length out ≡ 32000 → roomCheck ws out ≡ bufferCheck ws
+unfolding roomCheck bufferCheck
+room-buffer ws out e = ap (λ b. check b shortOutput 0) (by-cases (decLt 32000 (length ws))
+    (λ h. lt-leb (length ws) (length out) (omega arith) ∙ sym (lt-leb (2 * length ws) 64000 (omega arith)))
+    (λ h. le-leb (length ws) (length out) (omega arith) ∙ sym (le-leb (2 * length ws) 64000 (omega arith))))
+
+-- words written stand at the start
+pub taken : (ws out : List ℕ) {n : ℕ} {left : List ℕ} → n ≡ length ws → left ≡ over ws out → take n left ≡ ws
+taken ws out e f = rw (e, f) (take-over ws out)
+
+-- an output is no shorter
+pub held : (ws out : List ℕ) {n : ℕ} {left : List ℕ} → n ≡ length ws → left ≡ over ws out → n ≤ length left
+unfolding over
+held ws out e f = rw f (omega (arith, length-append ws (drop (length ws) out)))

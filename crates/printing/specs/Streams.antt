@@ -1,0 +1,41 @@
+-- The streams of the leaves of a twig, cut one after the other into a buffer.
+use mathlib.Core.Path.{_≡_}
+use mathlib.Core.List.{List, map}
+use mathlib.Core.Option.{none}
+use Prim.Native.Nat.{ℕ}
+use lib.ListN.{length}
+use Rattle.model.specs.Basics.{joined, over}
+use Rattle.model.specs.Names.{cluesOf, tableCheck, rootCheck}
+use Rattle.model.specs.Labels.{Label}
+use Rattle.model.specs.Twigs.{readTwig, wanted, leafNames, twigCheck}
+use Rattle.model.specs.Matches.{labelsWords}
+use Rattle.model.specs.Store.{elements, sizeCheck, soundCheck}
+use Rattle.model.specs.Cutting.{stream, streams}
+use Rattle.model.specs.Matching.{streamsCheck}
+
+-- an accepted store: its table, its size and its records
+pub record Accepted (rows : List (List ℕ)) (ws : List ℕ) (count : ℕ) : Type 0 where
+  pub table : tableCheck rows ≡ none
+  pub size : sizeCheck (length ws) count ≡ none
+  pub sound : soundCheck (cluesOf rows) count ws ≡ none
+
+-- the labels of all leaves' streams, in the order of the leaves
+abbrev pub allLabels : List ℕ → ℕ → List ℕ → List Label
+allLabels ws count twig = joined (streams (readTwig twig) (elements count ws))
+
+-- how many labels each leaf's stream has
+abbrev pub streamLens : List ℕ → ℕ → List ℕ → List ℕ
+streamLens ws count twig = map (λ want. length (stream want (elements count ws))) (leafNames (wanted (readTwig twig)))
+
+-- the streams stand in a buffer and their lengths in a list, n labels in all
+pub record Cut (ws : List ℕ) (count : ℕ) (twig : List ℕ) (n : ℕ) (counts₀ counts buffer₀ buffer : List ℕ) : Type 0 where
+  pub labels : n ≡ length (allLabels ws count twig)
+  pub lens : counts ≡ over (streamLens ws count twig) counts₀
+  pub words : buffer ≡ over (labelsWords (allLabels ws count twig)) buffer₀
+
+-- what matching takes but for the output: a table, a root name, a twig and streams that are accepted
+pub record Streamed (rows : List (List ℕ)) (root : ℕ) (twig counts buffer : List ℕ) : Type 0 where
+  pub table : tableCheck rows ≡ none
+  pub root-name : rootCheck root ≡ none
+  pub twig-good : twigCheck twig ≡ none
+  pub streams-good : streamsCheck (cluesOf rows) root (readTwig twig) counts buffer ≡ none

@@ -1,0 +1,45 @@
+-- What is printed for the words of a store and a twig: the matches, unless a check refuses.
+use mathlib.Core.Path.{_≡_}
+use mathlib.Core.List.{List, [], _∷_}
+use mathlib.Core.Option.{Option}
+use Prim.Native.Nat.{ℕ}
+use lib.ListN.{length}
+use Rattle.model.specs.Basics.{elim?, over, joined}
+use Rattle.model.specs.Refusals.{Refusal, first}
+use Rattle.model.specs.Names.{cluesOf}
+use Rattle.model.specs.Twigs.{readTwig, twigCheck}
+use Rattle.model.specs.Matches.{Match, labelsWords, matchWords}
+use Rattle.model.specs.Store.{elements, soundCheck, rootOf}
+use Rattle.model.specs.Cutting.{streams, fullList}
+use Rattle.model.specs.Printing.{matchesText, refusalText, bufferCheck}
+use Rattle.refusals.specs.declared.Refusal as declared
+
+-- bytes printed: they stand at the start of a text, and the answer is how many they are
+pub record Prints (bytes : List ℕ) (n : ℕ) (left text : List ℕ) : Type 0 where
+  pub many : n ≡ length bytes
+  pub stand : left ≡ over bytes text
+
+-- the refusal that data tells
+abbrev pub told : declared.Refusal → Refusal
+told x = record { number = x .number; place = x .place }
+
+-- matches, unless a check refuses
+unfoldable pub printedBy : List (Option Refusal) → List Match → List ℕ
+printedBy cs ms = elim? (first cs) (matchesText ms) refusalText
+
+-- a list of matches, unless it does not fit its buffer, 17
+unfoldable pub listPrinted : List Match → List ℕ
+listPrinted ms = printedBy (bufferCheck (matchWords ms) ∷ []) ms
+
+-- the matches of a twig's bytes in the records of a store, under record 0's name as the root's
+unfoldable pub storeMatches : List (List ℕ) → List ℕ → ℕ → List ℕ → List Match
+storeMatches rows ws count twig = fullList (cluesOf rows) (rootOf ws) (readTwig twig) (elements count ws)
+
+-- the checks of the buffers: 17 for the streams, 17 for the matches
+unfoldable pub bufferChecks : List (List ℕ) → List ℕ → ℕ → List ℕ → List (Option Refusal)
+bufferChecks rows ws count twig =
+    bufferCheck (labelsWords (joined (streams (readTwig twig) (elements count ws)))) ∷ bufferCheck (matchWords (storeMatches rows ws count twig)) ∷ []
+
+-- the checks of a store and a twig: 19, 4 to 8, 17
+unfoldable pub storeChecks : List (List ℕ) → List ℕ → ℕ → List ℕ → List (Option Refusal)
+storeChecks rows ws count twig = soundCheck (cluesOf rows) count ws ∷ twigCheck twig ∷ bufferChecks rows ws count twig
