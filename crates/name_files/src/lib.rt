@@ -1,7 +1,8 @@
-// Child-name files, read into tables; and the bench's own table.
+// Child-name files, read into tables; the bench's own table; and a table from its bytes.
 use names::FILLER;
 use names::MAX_NAME;
 use names::Place;
+use names::TABLE_SIZE;
 use names::Table;
 use names::clue_len;
 use names::place_of;
@@ -9,9 +10,12 @@ use refusals::Refusal;
 use refusals::Verdict;
 use refusals::refuse;
 ghost use mathlib.Core.Path.{_≡_};
+ghost use Prim.Native.Nat.{_*_};
+ghost use lib.ListN.{length};
 ghost use Rattle.model.specs.Names.{readNames};
 ghost use Rattle.model.specs.Bench.{benchTable};
 ghost use Rattle.name_files.specs.Answers.{read, readOf, refusedBy};
+ghost use Rattle.name_files.specs.Rows.{rowsIn};
 
 // A child-name file has at most 8,192 bytes.
 pub const MAX_FILE: usize = 8192;
@@ -67,5 +71,34 @@ pub fn bench_table() -> Table
 {
     let mut table: Table = [[FILLER; 64]; 64];
     read_names(&BENCH_PAIRS, &mut table);
+    table
+}
+
+// Sixty-four bytes as a row.
+fn row_of(bytes: &[u8]) -> [u8; 64]
+    requires { ⌜ length (now bytes) ≡ 64 ⌝ }
+    ensures { λ r. ⌜ r ≡ now (bytes .entry) ⌝ }
+{
+    let mut row = [FILLER; 64];
+    let mut k: usize = 0;
+    while k < bytes.len() {
+        row[k] = bytes[k];
+        k += 1;
+    }
+    row
+}
+
+// A table whose rows stand one after the other.
+pub fn table_of(bytes: &[u8]) -> Table
+    requires { ⌜ length (now bytes) ≡ 64 * 64 ⌝ }
+    ensures { λ r. ⌜ r ≡ rowsIn (now (bytes .entry)) ⌝ }
+{
+    let mut table: Table = [[FILLER; 64]; 64];
+    let mut p: usize = 0;
+    while p < TABLE_SIZE {
+        let start = p * TABLE_SIZE;
+        table[p] = row_of(&bytes[start..start + TABLE_SIZE]);
+        p += 1;
+    }
     table
 }

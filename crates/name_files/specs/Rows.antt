@@ -1,0 +1,14 @@
+-- A table as its bytes: rows that stand one after the other.
+use Prim.Native.Nat.{ℕ, _*_}
+use mathlib.Core.List.{List, map}
+use lib.ListN.{take, drop}
+use Rattle.model.specs.Basics.{upTo}
+use Rattle.model.specs.Limits.{tableSize}
+
+-- row p of a table's bytes
+unfoldable pub rowIn : List ℕ → ℕ → List ℕ
+rowIn bytes p = take tableSize (drop (p * tableSize) bytes)
+
+-- the rows of a table's bytes
+unfoldable pub rowsIn : List ℕ → List (List ℕ)
+rowsIn bytes = map (rowIn bytes) (upTo tableSize)
