@@ -13,8 +13,8 @@ use Rattle.model.specs.Matches.{labelsWords}
 use Rattle.model.proofs.Sizes.{length-over}
 use Rattle.model.proofs.StreamWords.{counted, laid}
 use Rattle.words.proofs.Words.{over-middle}
-use Rattle.texts.specs.Texts.{written}
-use Rattle.texts.proofs.Texts.{written-over, written-after, written-one}
+use Rattle.words.specs.Writing.{written}
+use Rattle.words.proofs.Writing.{written-over, written-after, written-one}
 use Rattle.printing.proofs.Leaves.{leavesTo, laid-append}
 
 -- the streams of some leaves stand in a buffer and their lengths in a list

@@ -10,8 +10,8 @@ use lib.ListN.{length, length-append, set}
 use borrow.Author.Tests.{lt-ltb, le-ltb}
 use Rattle.model.specs.Printing.{zeroDigit, digits, decimal}
 use Rattle.model.proofs.Decimals.{decimal-some}
-use Rattle.texts.specs.Texts.{written}
-use Rattle.texts.proofs.Texts.{written-one, written-before}
+use Rattle.words.specs.Writing.{written}
+use Rattle.words.proofs.Writing.{written-one, written-before}
 
 -- a number below ten has one digit
 pub decimal-digit : (n : ℕ) → n < 10 → decimal n ≡ (zeroDigit + n) ∷ []

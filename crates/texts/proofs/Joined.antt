@@ -5,7 +5,7 @@ use mathlib.Core.List.{List, [], _∷_, _++_, append-assoc}
 use Prim.Native.Nat.{ℕ, _+_, _≤_}
 use lib.ListN.{length}
 use Rattle.model.specs.Printing.{joinedBy}
-use Rattle.texts.specs.Texts.{written}
+use Rattle.words.specs.Writing.{written}
 use Rattle.texts.proofs.Texts.{Pending, pending-room, pending-more}
 
 -- texts with a byte before each, and an end behind them

@@ -9,7 +9,7 @@ use lib.Seq.{getD-take, getD-drop, length-take-le}
 use Rattle.model.specs.Labels.{labelOf}
 use Rattle.model.specs.Printing.{text, decimal, labelText}
 use Rattle.model.proofs.Scans.{from-cons}
-use Rattle.texts.specs.Texts.{written}
+use Rattle.words.specs.Writing.{written}
 use Rattle.texts.proofs.Texts.{Pending, pending-all, pending-from, pending-on, pending-none, pending-room, pending-more}
 use Rattle.texts.proofs.Joined.{tailed, joined-tailed, byte-room, text-room, text-put}
 

@@ -13,7 +13,8 @@ use Rattle.model.specs.Matching.{labelsIn}
 use Rattle.model.specs.Printing.{text, labelText, matchLine}
 use Rattle.model.proofs.LabelWords.{labelOf-take}
 use Rattle.model.proofs.Scans.{tail-is}
-use Rattle.texts.specs.Texts.{written, Depths}
+use Rattle.words.specs.Writing.{written}
+use Rattle.texts.specs.Texts.{Depths}
 use Rattle.texts.proofs.Texts.{Pending, pending-all, pending-from, pending-on, pending-none, pending-room, pending-more}
 use Rattle.texts.proofs.Joined.{tailed, joined-tailed, byte-room, text-room, text-put}
 

@@ -13,8 +13,10 @@ use Rattle.model.specs.Limits.{labelSize}
 use Rattle.model.specs.Matching.{labelsIn}
 use Rattle.model.specs.Printing.{matchLine, matchesText}
 use Rattle.model.proofs.Scans.{tail-is}
-use Rattle.texts.specs.Texts.{written, numberLine, matchesIn, Depths, labelRoom, countRoom}
-use Rattle.texts.proofs.Texts.{Pending, pending-all, pending-room, pending-more, written-over}
+use Rattle.words.specs.Writing.{written}
+use Rattle.texts.specs.Texts.{numberLine, matchesIn, Depths, labelRoom, countRoom}
+use Rattle.words.proofs.Writing.{written-over}
+use Rattle.texts.proofs.Texts.{Pending, pending-all, pending-room, pending-more}
 use Rattle.texts.proofs.LineTexts.{from}
 use Rattle.texts.proofs.Words.{length-matchesIn, depths-drop}
 use Rattle.texts.proofs.Rooms.{Small, matches-short}

@@ -8,8 +8,10 @@ use lib.ListN.{length, length-append}
 use Rattle.model.specs.Basics.{over}
 use Rattle.model.specs.Refusals.{Refusal}
 use Rattle.model.specs.Printing.{text, decimal, refusalText}
-use Rattle.texts.specs.Texts.{written, numberLine, refusalRoom}
-use Rattle.texts.proofs.Texts.{Pending, pending-all, pending-room, pending-more, written-over}
+use Rattle.words.specs.Writing.{written}
+use Rattle.texts.specs.Texts.{numberLine, refusalRoom}
+use Rattle.words.proofs.Writing.{written-over}
+use Rattle.texts.proofs.Texts.{Pending, pending-all, pending-room, pending-more}
 use Rattle.texts.proofs.Digits.{decimal-short}
 use Rattle.texts.proofs.Rooms.{number-line-short}
 

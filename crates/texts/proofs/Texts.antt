@@ -1,75 +1,14 @@
--- Bytes written into a text: one after another, from the back, and from the start.
+-- A text that is written part by part: what is to come, and that there is room for it.
 -- Assumes nothing.
 use mathlib.Core.Path.{_≡_, refl, sym, ap, _∙_}
-use mathlib.Core.List.{List, [], _∷_, _++_, append-assoc}
+use mathlib.Core.List.{List, [], _∷_, _++_}
 use Prim.Native.Nat.{ℕ, _+_, _≤_, _<_}
 use native.Mathlib.Nat.{add-zero}
 use native.Mathlib.Omega.{arith}
-use native.Mathlib.Numerals.{add-one}
-use lib.ListN.{length, getD, take, drop, set, length-append, length-drop, take-append-drop, drop-of-length-le}
-use lib.Seq.{set-split, take-at, drop-at, drop-drop, take-take, take-append-le, length-take-le}
-use Rattle.model.specs.Basics.{over}
+use lib.ListN.{length, getD, drop, set, length-append, drop-of-length-le}
 use Rattle.model.proofs.Scans.{from-cons}
-use Rattle.texts.specs.Texts.{written}
-
--- bytes written from the start of a text
-pub written-over : (b text : List ℕ) → written 0 b text ≡ over b text
-unfolding written over
-written-over b text = ap (λ n. b ++ drop n text) (let z : 0 + length b ≡ length b = omega arith in z)
-
--- no bytes
-pub written-none : (at : ℕ) (text : List ℕ) → written at [] text ≡ text
-unfolding written
-written-none at text = ap (λ n. take at text ++ drop n text) (let z : at + 0 ≡ at = omega arith in z) ∙ take-append-drop at text
-
--- one byte
-pub written-one : (at b : ℕ) (text : List ℕ) → at + 1 ≤ length text → set text at b ≡ written at (b ∷ []) text
-unfolding written
-written-one at b text h = rw add-one (set-split text at b (omega arith))
-
--- the length is kept
-pub length-written : (at : ℕ) (b text : List ℕ) → at + length b ≤ length text → length (written at b text) ≡ length text
-unfolding written
-length-written at b text h =
-    omega (
-      arith,
-      length-append (take at text) (b ++ drop (at + length b) text),
-      length-append b (drop (at + length b) text),
-      length-take-le at text (omega arith),
-      length-drop (at + length b) text,
-    )
-
-module _ (at : ℕ) (a b text : List ℕ) (room : at + length a + length b ≤ length text) where
-  -- bytes in two parts, written in place
-  parts : written at (a ++ b) text ≡ take at text ++ (a ++ (b ++ drop (at + length a + length b) text))
-  unfolding written
-  parts =
-      let z : at + length (a ++ b) ≡ at + length a + length b = omega (arith, length-append a b) in
-      rw (z, append-assoc)
-
-  -- written one after another is written joined
-  pub written-after : written (at + length a) b (written at a text) ≡ written at (a ++ b) text
-  unfolding written
-  written-after =
-      let rest : List ℕ = drop (at + length a) text in
-      let long : length (take at text ++ a) ≡ at + length a = omega (arith, length-append (take at text) a, length-take-le at text (omega arith)) in
-      ap (λ t. take (at + length a) t ++ (b ++ drop (at + length a + length b) t)) (sym (append-assoc (take at text) a rest)) ∙
-      rw (
-        take-at (take at text ++ a) rest (at + length a) long,
-        ← drop-drop (length b) (at + length a) (take at text ++ a ++ rest),
-        drop-at (take at text ++ a) rest (at + length a) long,
-        drop-drop,
-        append-assoc (take at text) a (b ++ drop (at + length a + length b) text),
-      ) (sym parts)
-
-  -- and so is the second part written first
-  pub written-before : written at a (written (at + length a) b text) ≡ written at (a ++ b) text
-  unfolding written
-  written-before =
-      let rest : List ℕ = b ++ drop (at + length a + length b) text in
-      let front : List ℕ = take (at + length a) text in
-      let long : length front ≡ at + length a = length-take-le (at + length a) text (omega arith) in
-      rw (take-append-le at front rest (omega arith), take-take at (at + length a) text (omega arith), drop-at front rest (at + length a) long) (sym parts)
+use Rattle.words.specs.Writing.{written}
+use Rattle.words.proofs.Writing.{length-written, written-after, written-none, written-one}
 
 -- What is written so far, with the bytes to come behind it, is what is to be written, and there is room for it.
 pub record Pending (at₀ : ℕ) (whole text₀ : List ℕ) (at : ℕ) (rest text : List ℕ) : Type 0 where

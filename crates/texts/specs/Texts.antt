@@ -1,15 +1,11 @@
--- Bytes written into a text, and the matches that words hold.
+-- The matches that words hold, and the room that their text needs.
 use mathlib.Core.List.{List, [], _∷_, _++_}
 use Prim.Native.Nat.{ℕ, zero, suc, _+_, _*_, _<_, _≤_}
-use lib.ListN.{length, getD, take, drop}
+use lib.ListN.{getD, drop}
 use Rattle.model.specs.Limits.{maxDepth, labelSize}
 use Rattle.model.specs.Matches.{Match}
 use Rattle.model.specs.Matching.{labelsIn}
 use Rattle.model.specs.Printing.{text, decimal}
-
--- bytes written into a text from a position on: what stands before and behind them is as it was
-unfoldable pub written : ℕ → List ℕ → List ℕ → List ℕ
-written at bytes text = take at text ++ (bytes ++ drop (at + length bytes) text)
 
 -- a line with a number
 abbrev pub numberLine : ℕ → List ℕ

@@ -9,7 +9,8 @@ ghost use Rattle.model.specs.Limits.{labelSize};
 ghost use Rattle.model.specs.Labels.{labelOf};
 ghost use Rattle.model.specs.Matching.{labelsIn};
 ghost use Rattle.model.specs.Printing.{zeroDigit, decimal, labelText, matchLine, matchesText, refusalText};
-ghost use Rattle.texts.specs.Texts.{written, numberLine, matchesIn, Depths, labelRoom, countRoom, refusalRoom};
+ghost use Rattle.texts.specs.Texts.{numberLine, matchesIn, Depths, labelRoom, countRoom, refusalRoom};
+ghost use Rattle.words.specs.Writing.{written};
 
 // The most bytes of a label and of what parts it from the next.
 pub const LABEL_ROOM: usize = 90;

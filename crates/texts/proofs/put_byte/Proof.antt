@@ -1,7 +1,7 @@
 -- `texts::put_byte` meets its contract: a byte set is a byte written.
 -- Assumes nothing.
 use borrow.Author.Needs.{needs}
-use Rattle.texts.proofs.Texts.{written-one}
+use Rattle.words.proofs.Writing.{written-one}
 use Rattle.texts.proofs.put_byte.Statement.{statement}
 use Rattle.texts.proofs.put_byte.Tie as tie
 

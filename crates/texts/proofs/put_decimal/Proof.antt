@@ -5,7 +5,7 @@ use mathlib.Core.Path.{_≡_}
 use borrow.Author.Needs.{needs}
 use lib.ListN.{length}
 use Rattle.model.specs.Printing.{decimal}
-use Rattle.texts.specs.Texts.{written}
+use Rattle.words.specs.Writing.{written}
 use Rattle.texts.proofs.Digits.{digit-some, digit-in, first-in, digit-before, digit-more, digit-end}
 use Rattle.texts.proofs.put_decimal.Statement.{statement}
 use Rattle.texts.proofs.put_decimal.Tie as tie
