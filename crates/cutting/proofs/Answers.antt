@@ -8,15 +8,16 @@ use native.Mathlib.Omega.{arith}
 use lib.ListN.{length}
 use lib.Dec.{leb, eqb}
 use borrow.Author.Tests.{le-leb, lt-leb, not-true, not-false}
-use Rattle.model.specs.Basics.{over}
-use Rattle.model.specs.Limits.{anyName, labelSize}
-use Rattle.model.specs.Refusals.{Refusal, refuse, check, first, nameAsked, shortOutput}
-use Rattle.model.specs.Names.{isName}
-use Rattle.model.specs.Twigs.{nameCheck}
-use Rattle.model.specs.Matches.{labelsWords}
-use Rattle.model.specs.Store.{elements}
-use Rattle.model.specs.Cutting as model
-use Rattle.model.proofs.Refusals.{first-last}
+use Rattle.labelling.specs.Basics.{over}
+use Rattle.labelling.specs.Limits.{anyName, labelSize}
+use Rattle.labelling.specs.Refusals.{Refusal, refuse, check, first, nameAsked, shortOutput}
+use Rattle.labelling.specs.Names.{isName}
+use Rattle.patterns.specs.Twigs.{nameCheck}
+use Rattle.patterns.specs.Matches.{labelsWords}
+use Rattle.storage.specs.Store.{elements}
+use Rattle.labelling.specs.Outputs as outputs
+use Rattle.storage.specs.Cutting as model
+use Rattle.labelling.proofs.Refusals.{first-last}
 use Rattle.refusals.specs.Answers.{verdictOf, filled, refusedBy, listingOf}
 use Rattle.refusals.specs.declared.Listing.{Listing}
 use Rattle.refusals.specs.declared.Refusal as declared
@@ -39,7 +40,7 @@ module _ (rows : List (List ℕ)) (ws : List ℕ) (count want : ℕ) (out : List
   -- a refused call leaves the output
   refused-by : (r : Refusal) {v : Verdict} {a : Listing} → model.cutRefusal rows ws count want out ≡ some r → v ≡ verdictOf (some r) → a ≡ refusedBy v →
       filled a out ≡ listingOf (model.cut rows ws count want out)
-  unfolding model.cut model.listed
+  unfolding model.cut outputs.listed
   refused-by r e f g = rw (e, g, f)
 
   module _ {v : Verdict} (checked : v ≡ verdictOf (storeCheck rows ws count)) where
@@ -52,7 +53,7 @@ module _ (rows : List (List ℕ)) (ws : List ℕ) (count want : ℕ) (out : List
 
     module _ (good : v ≡ verdict.Passed) {b : Bool} (is : b ≡ (isName want || eqb want anyName)) where
       -- behind the store's checks comes the name's
-      name-next : model.cutRefusal rows ws count want out ≡ first (check b nameAsked 0 ∷ model.roomCheck words out ∷ [])
+      name-next : model.cutRefusal rows ws count want out ≡ first (check b nameAsked 0 ∷ outputs.roomCheck words out ∷ [])
       unfolding model.cutRefusal nameCheck
       name-next = store-passed rows ws count (passed-none (storeCheck rows ws count) checked good) _ ∙ rw is
 
@@ -65,7 +66,7 @@ module _ (rows : List (List ℕ)) (ws : List ℕ) (count want : ℕ) (out : List
       module _ (e : not b ≡ false) {n : ℕ} (counted : n ≡ length (model.stream want (elements count ws))) where
         -- and then the output's
         room-next : model.cutRefusal rows ws count want out ≡ check (leb (labelSize * n) (length out)) shortOutput 0
-        unfolding check first model.roomCheck
+        unfolding check first outputs.roomCheck
         room-next = name-next ∙ rw (not-false b e, stream-words want count ws (store-laid rows ws count checked good), ← counted) (first-last _)
 
         -- an output that is too short
@@ -77,5 +78,5 @@ module _ (rows : List (List ℕ)) (ws : List ℕ) (count want : ℕ) (out : List
         -- the stream written
         pub cut-done : {left : List ℕ} → n ≤ length out / labelSize → left ≡ over words out →
             filled (record { verdict = verdict.Passed; count = n }) left ≡ listingOf (model.cut rows ws count want out)
-        unfolding check model.cut model.listed
+        unfolding check model.cut outputs.listed
         cut-done h f = rw (room-next, le-leb (labelSize * n) (length out) (omega arith), f, counted)

@@ -5,9 +5,9 @@ use mathlib.Core.Bool.{Bool}
 use mathlib.Core.List.{List}
 use native.Mathlib.Omega.{arith}
 use lib.ListN.{getD}
-use Rattle.model.specs.Limits.{recordSize, nameWord}
-use Rattle.model.specs.Matches.{asks}
-use Rattle.model.specs.Store.{readElement}
+use Rattle.labelling.specs.Limits.{recordSize, nameWord}
+use Rattle.patterns.specs.Matches.{asks}
+use Rattle.storage.specs.Store.{readElement}
 use Rattle.records.specs.Records.{recordAt}
 use Rattle.records.proofs.Parts.{record-word}
 

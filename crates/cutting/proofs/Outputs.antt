@@ -5,11 +5,11 @@ use mathlib.Core.List.{List, [], _∷_, _++_, append-assoc}
 use native.Mathlib.Omega.{arith}
 use lib.ListN.{length, take, drop, length-append, length-drop, take-append-drop}
 use lib.Seq.{take-at, take-take, drop-at, drop-drop, length-take-le}
-use Rattle.model.specs.Basics.{over, joined}
-use Rattle.model.specs.Limits.{labelSize, recordSize, maxDepth}
-use Rattle.model.specs.Labels.{Label, labelWords}
-use Rattle.model.specs.Matches.{labelsWords}
-use Rattle.model.proofs.LabelWords.{length-labelWords}
+use Rattle.labelling.specs.Basics.{over, joined}
+use Rattle.labelling.specs.Limits.{labelSize, recordSize, maxDepth}
+use Rattle.labelling.specs.Labels.{Label, labelWords}
+use Rattle.patterns.specs.Matches.{labelsWords}
+use Rattle.labelling.proofs.LabelWords.{length-labelWords}
 use Rattle.records.specs.Records.{recordAt}
 use Rattle.words.proofs.Words.{over-middle}
 use Rattle.cutting.specs.Words.{labelPut}

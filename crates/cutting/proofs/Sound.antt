@@ -6,19 +6,19 @@ use mathlib.Core.Option.{none}
 use native.Mathlib.Omega.{arith}
 use lib.ListN.{length, take, drop}
 use lib.Dec.{T}
-use Rattle.model.specs.Basics.{_∈_}
-use Rattle.model.specs.Limits.{maxDepth, labelSize, recordSize}
-use Rattle.model.specs.Names.{Clues, cluesOf}
-use Rattle.model.specs.Matches.{labelsWords}
-use Rattle.model.specs.Store.{Element, readElement, records, elements, laidOut, fault}
-use Rattle.model.specs.Cutting.{stream}
-use Rattle.model.proofs.Faults.{fault-cons, sound-check}
-use Rattle.model.proofs.Lists.{member-at}
-use Rattle.model.proofs.MatchWords.{length-labelsWords}
-use Rattle.model.proofs.Relaid.{sound-laid}
-use Rattle.model.proofs.Sizes.{length-elements-read}
-use Rattle.model.proofs.SoundStore.{label-good}
-use Rattle.model.proofs.StreamWords.{for-stream}
+use Rattle.labelling.specs.Basics.{_∈_}
+use Rattle.labelling.specs.Limits.{maxDepth, labelSize, recordSize}
+use Rattle.labelling.specs.Names.{Clues, cluesOf}
+use Rattle.patterns.specs.Matches.{labelsWords}
+use Rattle.storage.specs.Store.{Element, readElement, records, elements, laidOut, fault}
+use Rattle.storage.specs.Cutting.{stream}
+use Rattle.storage.proofs.Faults.{fault-cons, sound-check}
+use Rattle.labelling.proofs.Lists.{member-at}
+use Rattle.patterns.proofs.MatchWords.{length-labelsWords}
+use Rattle.storage.proofs.Relaid.{sound-laid}
+use Rattle.storage.proofs.Sizes.{length-elements-read}
+use Rattle.storage.proofs.SoundStore.{label-good}
+use Rattle.storage.proofs.StreamWords.{for-stream}
 use Rattle.refusals.specs.Answers.{verdictOf}
 use Rattle.refusals.specs.declared.Verdict.{Verdict}
 use Rattle.refusals.specs.declared.Verdict.the-variants as verdict

@@ -5,13 +5,13 @@ use mathlib.Core.Bool.{Bool, true, false}
 use mathlib.Core.List.{List}
 use native.Mathlib.Omega.{arith}
 use lib.ListN.{length, take}
-use Rattle.model.specs.Basics.{over}
-use Rattle.model.specs.Limits.{labelSize}
-use Rattle.model.specs.Matches.{asks, labelsWords}
-use Rattle.model.specs.Store.{readElement, elements}
-use Rattle.model.specs.Cutting.{stream}
-use Rattle.model.proofs.Relaid.{label-back}
-use Rattle.model.proofs.SoundStore.{label-good}
+use Rattle.labelling.specs.Basics.{over}
+use Rattle.labelling.specs.Limits.{labelSize}
+use Rattle.patterns.specs.Matches.{asks, labelsWords}
+use Rattle.storage.specs.Store.{readElement, elements}
+use Rattle.storage.specs.Cutting.{stream}
+use Rattle.storage.proofs.Relaid.{label-back}
+use Rattle.storage.proofs.SoundStore.{label-good}
 use Rattle.records.specs.Records.{recordAt}
 use Rattle.cutting.specs.Words.{Laid, labelPut}
 use Rattle.cutting.proofs.Streams.{streamFrom, stream-end, stream-taken, stream-left, count-taken}

@@ -3,8 +3,8 @@ use mathlib.Core.List.{List, _++_}
 use Prim.Native.Nat.{ℕ, _+_, _*_, _<_}
 use lib.ListN.{take, drop}
 use lib.Dec.{T}
-use Rattle.model.specs.Limits.{labelSize}
-use Rattle.model.specs.Store.{laidOut}
+use Rattle.labelling.specs.Limits.{labelSize}
+use Rattle.storage.specs.Store.{laidOut}
 use Rattle.records.specs.Records.{recordAt}
 
 -- each record in use is laid out as it must be

@@ -1,9 +1,9 @@
--- What the answers of the code tell, by the definitions of `model`.
+-- What the answers of the code tell, by the definitions of `labelling`.
 use Prim.Native.Nat.{ℕ}
 use lib.ListN.{replicate}
-use Rattle.model.specs.Limits.{labelSize}
-use Rattle.model.specs.Refusals.{refuse}
-use Rattle.model.specs.Labels as model
+use Rattle.labelling.specs.Limits.{labelSize}
+use Rattle.labelling.specs.Refusals.{refuse}
+use Rattle.labelling.specs.Labels as model
 use Rattle.refusals.specs.Answers.{verdictOf}
 use Rattle.decoding.specs.declared.Decoding.{Decoding}
 

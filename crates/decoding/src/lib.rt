@@ -12,8 +12,8 @@ use refusals::refuse;
 ghost use mathlib.Core.Path.{_≡_};
 ghost use Prim.Native.Nat.{_≤_};
 ghost use lib.ListN.{length};
-ghost use Rattle.model.specs.Names.{cluesOf};
-ghost use Rattle.model.specs.Labels as model;
+ghost use Rattle.labelling.specs.Names.{cluesOf};
+ghost use Rattle.labelling.specs.Labels as model;
 ghost use Rattle.decoding.specs.Answers.{refusedBy, decodedBy, decodingOf};
 
 // What decoding answers: the depth + 1 names from the root, the rest of sixteen places 0.

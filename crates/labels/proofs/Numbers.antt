@@ -5,8 +5,8 @@ use mathlib.Core.Bool.{Bool, true, false, cond}
 use native.Mathlib.Omega.{arith}
 use lib.Dec.{leb}
 use borrow.Author.Tests.{le-ltb, lt-ltb, le-leb, lt-leb}
-use Rattle.model.specs.Limits.{maxComponent}
-use Rattle.model.specs.Numbers.{number}
+use Rattle.labelling.specs.Limits.{maxComponent}
+use Rattle.labelling.specs.Numbers.{number}
 use Rattle.labels.specs.Answers.{numberOf, numberFor}
 use Rattle.labels.specs.declared.Number.{Number}
 use Rattle.labels.specs.declared.Number.the-variants as given

@@ -9,8 +9,8 @@ use native.Mathlib.Omega.{arith}
 use lib.ListN.{length, getD, drop}
 use lib.Dec.{ltb, eqb}
 use borrow.Author.Tests.{eq-eqb, lt-ltb, le-ltb}
-use Rattle.model.specs.Labels.{Label, before, shared}
-use Rattle.model.proofs.Tests.{Tells, passes, fails, eq?}
+use Rattle.labelling.specs.Labels.{Label, before, shared}
+use Rattle.labelling.proofs.Tests.{Tells, passes, fails, eq?}
 use Rattle.labels.proofs.Steps.{before-end, before-prefix, before-less, before-greater}
 
 -- what two labels share leaves their order to the rest

@@ -10,15 +10,15 @@ use native.Mathlib.Nat.{add-sub-cancel}
 use lib.ListN.{length, getD, take, drop, drop-of-length-le}
 use lib.Dec.{T}
 use borrow.Author.Tests.{eq-eqb, ne-eqb, le-ltb, lt-ltb, le-leb, lt-leb, not-true, not-false}
-use Rattle.model.specs.Basics.{all}
-use Rattle.model.specs.Limits.{maxComponent, maxDepth, labelSize}
-use Rattle.model.specs.Refusals.{check, refuse, notLabel}
-use Rattle.model.specs.Labels.{Label, before, shared, within, kinship, follows, isComponent, labelOf, isLabel, labelCheck, kinshipCall, followsCall}
-use Rattle.model.proofs.Tests.{and-iff, is-true, test-equal}
-use Rattle.model.proofs.LabelWords.{IsLabel, isLabel-iff, labelOf-good}
-use Rattle.model.proofs.Kinship.{shared-comm, follows-iff}
-use Rattle.model.proofs.LabelCalls.{kinship-call, kinship-refused, follows-call, follows-refused}
-use Rattle.model.proofs.Scans.{from-cons, tail-is}
+use Rattle.labelling.specs.Basics.{all}
+use Rattle.labelling.specs.Limits.{maxComponent, maxDepth, labelSize}
+use Rattle.labelling.specs.Refusals.{check, refuse, notLabel}
+use Rattle.labelling.specs.Labels.{Label, before, shared, within, kinship, follows, isComponent, labelOf, isLabel, labelCheck, kinshipCall, followsCall}
+use Rattle.labelling.proofs.Tests.{and-iff, is-true, test-equal}
+use Rattle.labelling.proofs.LabelWords.{IsLabel, isLabel-iff, labelOf-good}
+use Rattle.labelling.proofs.Kinship.{shared-comm, follows-iff}
+use Rattle.labelling.proofs.LabelCalls.{kinship-call, kinship-refused, follows-call, follows-refused}
+use Rattle.labelling.proofs.Scans.{from-cons, tail-is}
 use Rattle.refusals.specs.Answers.{refusalOf, verdictOf}
 use Rattle.refusals.specs.declared.Refusal.{Refusal}
 use Rattle.refusals.specs.declared.Verdict.{Verdict}

@@ -1,10 +1,10 @@
--- What the answers of the code tell, by the definitions of `model`.
+-- What the answers of the code tell, by the definitions of `labelling`.
 use Prim.Native.Nat.{ℕ}
 use mathlib.Core.Bool.{Bool, cond}
 use lib.Dec.{leb, ltb, eqb}
-use Rattle.model.specs.Limits.{maxComponent}
-use Rattle.model.specs.Refusals.{Reply, value, refused}
-use Rattle.model.specs.Numbers.{number}
+use Rattle.labelling.specs.Limits.{maxComponent}
+use Rattle.labelling.specs.Refusals.{Reply, value, refused}
+use Rattle.labelling.specs.Numbers.{number}
 use Rattle.refusals.specs.Answers.{refusalOf}
 use Rattle.labels.specs.declared.KinshipAnswer.{KinshipAnswer}
 use Rattle.labels.specs.declared.KinshipAnswer.the-variants as kinship

@@ -7,8 +7,8 @@ ghost use mathlib.Core.Bool.{true, _&&_};
 ghost use Prim.Native.Nat.{_≤_, _<_};
 ghost use mathlib.Core.List.{[]};
 ghost use lib.ListN.{length, take, drop};
-ghost use Rattle.model.specs.Basics.{all};
-ghost use Rattle.model.specs.Labels as model;
+ghost use Rattle.labelling.specs.Basics.{all};
+ghost use Rattle.labelling.specs.Labels as model;
 ghost use Rattle.refusals.specs.Answers.{verdictOf};
 ghost use Rattle.labels.specs.Answers.{isZero, kinshipOf, followsOf, numberOf, numberFor};
 

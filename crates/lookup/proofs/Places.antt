@@ -9,18 +9,18 @@ use native.Mathlib.Omega.{arith}
 use native.Mathlib.Decide.{decLt}
 use lib.ListN.{length, getD, take, drop, length-take, length-drop}
 use lib.Dec.{T}
-use Rattle.model.specs.Basics.{_∈_, elim?, keep, Ascending, none-left, one-more}
-use Rattle.model.specs.Limits.{maxDepth, recordSize}
-use Rattle.model.specs.Names.{Clues}
-use Rattle.model.specs.Labels.{Label, before, within, same, labelOf}
-use Rattle.model.specs.Store.{Element, readElement, records, elements, find, soundCheck}
-use Rattle.model.specs.Updates.{placed, without}
-use Rattle.model.proofs.Tests.{or-iff, and-iff, decide, is-true, is-false, Tells, passes as told, fails as untold}
-use Rattle.model.proofs.Lists.{here, member-at}
-use Rattle.model.proofs.LabelOrder.{before-order, before-one-way, before-extend, extend-before, within-iff, within-self, same?}
-use Rattle.model.proofs.Sizes.{length-elements-read}
-use Rattle.model.proofs.Faults.{sound-check}
-use Rattle.model.proofs.SoundStore.{ahead, sound-elements}
+use Rattle.labelling.specs.Basics.{_∈_, elim?, keep, Ascending, none-left, one-more}
+use Rattle.labelling.specs.Limits.{maxDepth, recordSize}
+use Rattle.labelling.specs.Names.{Clues}
+use Rattle.labelling.specs.Labels.{Label, before, within, same, labelOf}
+use Rattle.storage.specs.Store.{Element, readElement, records, elements, find, soundCheck}
+use Rattle.storage.specs.Updates.{placed, without}
+use Rattle.labelling.proofs.Tests.{or-iff, and-iff, decide, is-true, is-false, Tells, passes as told, fails as untold}
+use Rattle.labelling.proofs.Lists.{here, member-at}
+use Rattle.labelling.proofs.LabelOrder.{before-order, before-one-way, before-extend, extend-before, within-iff, within-self, same?}
+use Rattle.storage.proofs.Sizes.{length-elements-read}
+use Rattle.storage.proofs.Faults.{sound-check}
+use Rattle.storage.proofs.SoundStore.{ahead, sound-elements}
 use Rattle.records.specs.Records.{recordAt}
 use Rattle.records.proofs.Parts.{record-depth}
 use Rattle.records.proofs.Elements.{element-at}

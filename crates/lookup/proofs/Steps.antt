@@ -8,13 +8,13 @@ use native.Mathlib.Omega.{arith}
 use lib.ListN.{length, getD}
 use lib.Dec.{T, eqb}
 use borrow.Author.Tests.{not-true, not-false}
-use Rattle.model.specs.Limits.{maxDepth, recordSize}
-use Rattle.model.specs.Labels.{Label, before, shared, within, same, labelOf}
-use Rattle.model.specs.Store.{Element, readElement, elements}
-use Rattle.model.proofs.Tests.{and-iff, eqb-alike}
-use Rattle.model.proofs.LabelOrder.{same-alike}
-use Rattle.model.proofs.Kinship.{shared-self, shared-comm}
-use Rattle.model.proofs.Sizes.{length-elements-read}
+use Rattle.labelling.specs.Limits.{maxDepth, recordSize}
+use Rattle.labelling.specs.Labels.{Label, before, shared, within, same, labelOf}
+use Rattle.storage.specs.Store.{Element, readElement, elements}
+use Rattle.labelling.proofs.Tests.{and-iff, eqb-alike}
+use Rattle.labelling.proofs.LabelOrder.{same-alike}
+use Rattle.labelling.proofs.Kinship.{shared-self, shared-comm}
+use Rattle.storage.proofs.Sizes.{length-elements-read}
 use Rattle.records.specs.Records.{recordAt}
 use Rattle.records.proofs.Elements.{element-at}
 use Rattle.lookup.specs.Places.{placeAt, foundOf, passes, leading, Searchable}

@@ -4,11 +4,11 @@ use mathlib.Core.List.{List, [], _∷_}
 use mathlib.Core.Option.{Option, none, some, Option·map}
 use Prim.Native.Nat.{ℕ, suc, _*_, _<_, _≤_}
 use lib.ListN.{length, getD}
-use Rattle.model.specs.Basics.{Ascending}
-use Rattle.model.specs.Limits.{maxDepth, recordSize}
-use Rattle.model.specs.Labels.{Label, before, within, same}
-use Rattle.model.specs.Store.{Element, elements}
-use Rattle.model.proofs.SoundStore.{ahead}
+use Rattle.labelling.specs.Basics.{Ascending}
+use Rattle.labelling.specs.Limits.{maxDepth, recordSize}
+use Rattle.labelling.specs.Labels.{Label, before, within, same}
+use Rattle.storage.specs.Store.{Element, elements}
+use Rattle.storage.proofs.SoundStore.{ahead}
 use Rattle.lookup.specs.declared.Found.{Found}
 use Rattle.lookup.specs.declared.Found.the-variants as found
 

@@ -6,7 +6,7 @@ ghost use mathlib.Core.Path.{_≡_};
 ghost use mathlib.Core.Bool.{true};
 ghost use Prim.Native.Nat.{_+_, _*_, _≤_};
 ghost use lib.ListN.{length, getD};
-ghost use Rattle.model.specs.Store.{readElement, elements};
+ghost use Rattle.storage.specs.Store.{readElement, elements};
 ghost use Rattle.records.specs.Records.{recordAt};
 ghost use Rattle.lookup.specs.Places.{placeAt, foundOf, passes, leading, Searchable};
 

@@ -1,4 +1,5 @@
 -- Masks gathered and filled, then the places of labels, then steps by skips.
+pub mod Gathering
 pub mod Spans
 pub mod Depths
 pub mod Filling

@@ -2,20 +2,21 @@
 -- Assumes nothing.
 use Prim.Native.Nat.{ℕ, _*_, _≤_}
 use mathlib.Core.Path.{_≡_, refl, sym, ap, _∙_}
-use mathlib.Core.Bool.{not}
+use mathlib.Core.Bool.{Bool, true, false, not}
 use mathlib.Core.List.{List, [], _∷_}
 use mathlib.Core.Option.{Option, none, some}
 use native.Mathlib.Omega.{arith}
-use lib.ListN.{length}
-use Rattle.model.specs.Basics.{all, total}
-use Rattle.model.specs.Limits.{labelSize}
-use Rattle.model.specs.Refusals.{Refusal, first}
-use Rattle.model.specs.Names.{cluesOf}
-use Rattle.model.specs.Twigs.{readTwig, twigCheck, wanted}
-use Rattle.model.specs.Matches.{matchWords}
-use Rattle.model.specs.Cutting.{listed, roomCheck}
-use Rattle.model.specs.Matching.{labelsCheck, matchesOf, matchRefusal, matchCall}
-use Rattle.model.proofs.Refusals.{first-here, first-rest, first-last, first-next}
+use lib.ListN.{length, getD}
+use borrow.Author.Tests.{le-leb, not-true}
+use Rattle.labelling.specs.Basics.{all, total, joined, over}
+use Rattle.labelling.specs.Limits.{labelSize, maxElements}
+use Rattle.labelling.specs.Refusals.{Refusal, first, check}
+use Rattle.labelling.specs.Names.{cluesOf}
+use Rattle.patterns.specs.Twigs.{readTwig, twigCheck, wanted}
+use Rattle.patterns.specs.Matches.{matchWords}
+use Rattle.labelling.specs.Outputs.{listed, roomCheck}
+use Rattle.patterns.specs.Matching.{labelsCheck, matchesOf, matchRefusal, matchCall}
+use Rattle.labelling.proofs.Refusals.{first-here, first-rest, first-last, first-next}
 use Rattle.refusals.specs.Answers.{verdictOf, filled, refusedBy, listingOf}
 use Rattle.refusals.specs.declared.Listing.{Listing}
 use Rattle.refusals.specs.declared.Refusal as declared
@@ -26,11 +27,12 @@ use Rattle.plans.specs.Plans.{isFew, countsCheck, Plan, PlanFor}
 use Rattle.plans.proofs.Counts.{counts-each, counts-few, counts-words, words-small}
 use Rattle.plans.proofs.Plans as plans
 use Rattle.reading.specs.Reads.{Reads}
-use Rattle.pruning.specs.Prunes.{Prunable, Pruned}
-use Rattle.matching.specs.Searches.{inputCheck, Searchable, found, answered}
+use Rattle.places.specs.Settings.{Sharing}
+use Rattle.pruning.specs.Prunes.{Prunable, Pruned, Matchless}
+use Rattle.matching.specs.Searches.{inputCheck, Searchable, Workspace, Within, found, answered}
 use Rattle.matching.proofs.Inputs.{input-names, input-twig, input-counts}
 use Rattle.matching.proofs.Streams.{all-streamed}
-use Rattle.matching.proofs.Found.{searchable, found-matches}
+use Rattle.matching.proofs.Found.{searchable, found-matches, none-listed}
 
 -- checks that refuse do so with others behind them, and with a last one that refuses alike
 refused-alike : (a b c d s : Option Refusal) (cs : List (Option Refusal)) (r : Refusal) → (d ≡ some r → s ≡ some r) →
@@ -96,6 +98,11 @@ module _ (rows : List (List ℕ)) (root : ℕ) (bytes counts buffer out : List �
         ap (λ o. listed o (length (matchesOf (cluesOf rows) root bytes counts buffer)) (matchWords (matchesOf (cluesOf rows) root bytes counts buffer)) out)
         (sym (labels-next ∙ first-next _ _ (passed-none (labelsCheck (cluesOf rows) root 0 (wanted (readTwig bytes)) counts buffer) checked f)))
 
+-- no match is answered with the output as it was
+nothing : (out : List ℕ) → filled (record { verdict = verdict.Passed; count = 0 }) out ≡ listingOf (answered [] out)
+unfolding answered listed roomCheck check matchWords joined over
+nothing out = rw (le-leb 0 (length out) (omega arith))
+
 -- an input that passed, with its plan, and labels that passed
 module _ (rows : List (List ℕ)) (root : ℕ) (bytes counts buffer : List ℕ) (passed : inputCheck rows root bytes counts (length buffer) ≡ none)
     {starts lens guides : List ℕ} (plan : Plan (readTwig bytes) counts buffer starts lens guides)
@@ -113,25 +120,24 @@ module _ (rows : List (List ℕ)) (root : ℕ) (bytes counts buffer : List ℕ) 
   labelled : labelsCheck (cluesOf rows) root 0 (wanted (readTwig bytes)) counts buffer ≡ none
   labelled = passed-none (labelsCheck (cluesOf rows) root 0 (wanted (readTwig bytes)) counts buffer) checked good
 
-  -- the buffer has no more labels than eight streams can have
-  buffer-most : length buffer ≤ 32768 * labelSize
-  buffer-most = omega (
-    arith,
-    counts-words (readTwig bytes) counts (length buffer) counted,
-    words-small bytes counts (length buffer) refl (counts-each (readTwig bytes) counts (length buffer) counted) {b = all isFew counts} refl
-        (ap not (counts-few (readTwig bytes) counts (length buffer) counted)) {sum = total counts} refl accepted,
-  )
-
   -- the masks can be pruned
-  pub prune-ready : (size : ℕ) → length shares ≡ size → size ≡ 32768 → Prunable bytes starts lens guides buffer shares masks
-  prune-ready size same long = record {
+  pub prune-ready : {size : ℕ} → length shares ≡ size → length buffer ≤ size * labelSize → Prunable bytes starts lens guides buffer shares masks
+  prune-ready same room = record {
     good = accepted;
     streamed = all-streamed (cluesOf rows) root bytes counts buffer accepted counted labelled plan;
     guided = plan .guided;
     shared = read good .shared;
-    shareRoom = omega (arith, buffer-most);
+    shareRoom = rw same room;
     maskRoom = read good .maskRoom;
   }
+
+  -- where pruning finds no match, none is the answer
+  pub match-none : {b : Bool} → (b ≡ false → Matchless bytes starts lens guides buffer shares masks) → not b ≡ true → (out : List ℕ) →
+      filled (record { verdict = verdict.Passed; count = 0 }) out ≡ listingOf (matchCall rows root bytes counts buffer out)
+  match-none {b} matchless turned out =
+      nothing out ∙
+      ap (λ ms. listingOf (answered ms out)) (sym (none-listed (cluesOf rows) root bytes counts buffer accepted (matchless (not-true b turned) (cluesOf rows) root counts plan (read good)))) ∙
+      ap listingOf (all-answered rows root bytes counts buffer out passed checked good)
 
   module _ {masks′ : List ℕ} (pruned : Pruned bytes starts lens guides buffer shares masks masks′) where
     -- pruned masks are as good as those that were read
@@ -139,8 +145,12 @@ module _ (rows : List (List ℕ)) (root : ℕ) (bytes counts buffer : List ℕ) 
     still-read = pruned (cluesOf rows) root counts plan (read good)
 
     -- the search can be made
-    pub fill-ready : Searchable bytes starts lens buffer masks′
-    fill-ready = searchable (cluesOf rows) root bytes counts buffer accepted counted labelled plan still-read
+    pub fill-ready : {size : ℕ} → length shares ≡ size → length buffer ≤ size * labelSize →
+        Searchable bytes starts lens buffer masks′ × Sharing bytes starts lens buffer shares
+    fill-ready same room = (
+      searchable (cluesOf rows) root bytes counts buffer accepted counted labelled plan still-read,
+      record { room = rw same room; each = read good .shared },
+    )
 
     -- its answer is the call's
     pub match-done : (out : List ℕ) {a : Listing} {left : List ℕ} → filled a left ≡ listingOf (answered (found bytes starts lens buffer masks′) out) →
@@ -149,3 +159,35 @@ module _ (rows : List (List ℕ)) (root : ℕ) (bytes counts buffer : List ℕ) 
         e ∙
         ap (λ ms. listingOf (answered ms out)) (found-matches (cluesOf rows) root bytes counts buffer accepted counted labelled plan still-read) ∙
         ap listingOf (all-answered rows root bytes counts buffer out passed checked good)
+
+-- an input that passed has a buffer for at most eight streams of 4,096 labels
+buffer-most : (rows : List (List ℕ)) (root : ℕ) (bytes counts buffer : List ℕ) → inputCheck rows root bytes counts (length buffer) ≡ none → length buffer ≤ 32768 * labelSize
+buffer-most rows root bytes counts buffer passed =
+    let counted : countsCheck (readTwig bytes) counts (length buffer) ≡ none = input-counts rows root bytes counts (length buffer) passed in
+    omega (
+      arith,
+      counts-words (readTwig bytes) counts (length buffer) counted,
+      words-small bytes counts (length buffer) refl (counts-each (readTwig bytes) counts (length buffer) counted) {b = all isFew counts} refl
+          (ap not (counts-few (readTwig bytes) counts (length buffer) counted)) {sum = total counts} refl (input-twig rows root bytes counts (length buffer) passed),
+    )
+
+-- working arrays for streams of at most n labels have room
+pub spacious : (n : ℕ) {bytes lens buffer shares paths raised masks skips : List ℕ} → Within n bytes lens buffer →
+    length shares ≡ n * 8 → length paths ≡ n * labelSize → length raised ≡ n → length masks ≡ n * 8 → length skips ≡ n * 8 →
+    Workspace bytes lens buffer shares paths raised masks skips
+spacious n {bytes} {lens} w s p r m k = record {
+  shareRoom = omega (arith, w .1);
+  pathRoom = λ q h. omega (arith, w .0 q h);
+  oneRoom = λ q h. omega (arith, w .0 q h);
+  maskRoom = λ q h. omega (arith, w .0 q h);
+  skipRoom = λ q h. omega (arith, w .0 q h);
+}
+
+-- streams that a test found short
+pub within-short : (bytes lens buffer : List ℕ) {b : Bool} {n : ℕ} → (b ≡ true → ((q : ℕ) → getD lens q 0 ≤ n) × (length buffer ≤ n * 8 * labelSize)) → b ≡ true → Within n bytes lens buffer
+within-short bytes lens buffer tells e = ((λ q h. tells e .0 q), tells e .1)
+
+-- any streams
+pub within-any : (rows : List (List ℕ)) (root : ℕ) (bytes counts buffer : List ℕ) {starts lens guides : List ℕ} → inputCheck rows root bytes counts (length buffer) ≡ none →
+    Plan (readTwig bytes) counts buffer starts lens guides → Within maxElements bytes lens buffer
+within-any rows root bytes counts buffer passed plan = (plan .few, buffer-most rows root bytes counts buffer passed)

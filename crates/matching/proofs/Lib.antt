@@ -4,3 +4,4 @@ pub mod Streams
 pub mod Found
 pub mod Fillings
 pub mod Answers
+pub mod Sizes

@@ -5,18 +5,18 @@ use mathlib.Core.List.{List, Memᴰ·cast, Memᴰ·map, _++_, _∷_, []}
 use mathlib.Core.Option.{none}
 use Prim.Native.Nat.{ℕ, _+_}
 use lib.ListN.{length}
-use Rattle.model.specs.Names.{cluesOf}
-use Rattle.model.specs.Labels.{Label, same, labelOf, decodeCall}
-use Rattle.model.specs.Twigs.{readTwig}
-use Rattle.model.specs.Updates.{Answer}
-use Rattle.model.specs.Cutting.{fullList}
+use Rattle.labelling.specs.Names.{cluesOf}
+use Rattle.labelling.specs.Labels.{Label, same, labelOf, decodeCall}
+use Rattle.patterns.specs.Twigs.{readTwig}
+use Rattle.storage.specs.Updates.{Answer}
+use Rattle.storage.specs.Cutting.{fullList}
 use Rattle.model.specs.Book.{moved, Book, Line, Call, answer, deletion, entry, bookAfter, childLine}
 use Rattle.model.specs.Demand3.{Next, Accepted, DeletionHolds, EntryHolds}
-use Rattle.model.proofs.Tests.{is-false, is-true}
-use Rattle.model.proofs.Lists.{here, there}
-use Rattle.model.proofs.LabelOrder.{same-alike}
-use Rattle.model.proofs.LabelCalls.{decode-call}
-use Rattle.model.proofs.TwigBytes.{accepted-twig}
+use Rattle.labelling.proofs.Tests.{is-false, is-true}
+use Rattle.labelling.proofs.Lists.{here, there}
+use Rattle.labelling.proofs.LabelOrder.{same-alike}
+use Rattle.labelling.proofs.LabelCalls.{decode-call}
+use Rattle.patterns.proofs.TwigBytes.{accepted-twig}
 use Rattle.model.proofs.InOrder.{lineAt-mem, struck-iff}
 use Rattle.model.proofs.Calls.{Ready}
 use Rattle.model.proofs.Answers.{parent, deletion-found, refused-alike, deletion-book, refused-holds, num, deletion-answer, entry-answer, entry-book, entry-length, entry-good}

@@ -4,18 +4,18 @@ use mathlib.Core.List.{List}
 use mathlib.Core.Option.{Option, none, some}
 use Prim.Native.Nat.{ℕ, _<_, _%_, _+_, _*_}
 use lib.ListN.{length, take}
-use Rattle.model.specs.Basics.{elim?, last}
-use Rattle.model.specs.Limits.{recordSize}
-use Rattle.model.specs.Refusals.{Refusal}
-use Rattle.model.specs.Names.{cluesOf}
-use Rattle.model.specs.Numbers.{number, articleNumber}
-use Rattle.model.specs.Labels.{Label}
-use Rattle.model.specs.Updates.{given}
+use Rattle.labelling.specs.Basics.{elim?, last}
+use Rattle.labelling.specs.Limits.{recordSize}
+use Rattle.labelling.specs.Refusals.{Refusal}
+use Rattle.labelling.specs.Names.{cluesOf}
+use Rattle.labelling.specs.Numbers.{number, articleNumber}
+use Rattle.labelling.specs.Labels.{Label}
+use Rattle.storage.specs.Updates.{given}
 use Rattle.model.specs.Book.{lineElement, opened, called, Book, bookWords, deletion, Call, answer, bookAfter, givenOut, entry}
 use Rattle.model.specs.Claims.{NothingDeleted, ArticleNumbers, lastBelow}
-use Rattle.model.proofs.NameTables.{placed-at}
-use Rattle.model.proofs.Article.{article-first, article-agrees}
-use Rattle.model.proofs.LabelWords.{labelOf-labelWords}
+use Rattle.labelling.proofs.NameTables.{placed-at}
+use Rattle.labelling.proofs.Article.{article-first, article-agrees}
+use Rattle.labelling.proofs.LabelWords.{labelOf-labelWords}
 use Rattle.model.proofs.InOrder.{lineAt-mem, labels, labels-moved}
 use Rattle.model.proofs.Calls.{Ready}
 use Rattle.model.proofs.Answers.{entry-answer, entry-book, refused-holds}

@@ -7,24 +7,26 @@ use Prim.Native.Nat.{ℕ, _≤_, suc, _<_, _+_, _*_, _-_}
 use native.Mathlib.Omega.{arith}
 use lib.ListN.{length, length-map, length-append, replicate, length-replicate}
 use lib.Dec.{leb→le}
-use Rattle.model.specs.Basics.{elim?}
-use Rattle.model.specs.Limits.{labelSize, maxDepth, recordSize}
-use Rattle.model.specs.Refusals.{Refusal}
-use Rattle.model.specs.Names.{Clues, cluesOf}
-use Rattle.model.specs.Labels.{decodeCall, decodeRefusal, Label, labelOf, within, Decoding, labelCheck, namesIn, Decoded, decode, path, stuck}
-use Rattle.model.specs.Store.{sizeCheck, elementAt, soundCheck, Element, elements, find, storeWords, elementWords}
-use Rattle.model.specs.Updates.{Answer, delete, enter, entered, newStore, parentCheck, deletionRefusal, entryRefusal, newStoreRefusal, raised, given, without}
-use Rattle.model.specs.Cutting.{listed, Listing, cut, cutRefusal, roomCheck}
-use Rattle.model.specs.Matching.{matchCall, matchRefusal}
+use Rattle.labelling.specs.Basics.{elim?}
+use Rattle.labelling.specs.Limits.{labelSize, maxDepth, recordSize}
+use Rattle.labelling.specs.Refusals.{Refusal}
+use Rattle.labelling.specs.Names.{Clues, cluesOf}
+use Rattle.labelling.specs.Labels.{decodeCall, decodeRefusal, Label, labelOf, within, Decoding, labelCheck, namesIn, Decoded, decode, path, stuck}
+use Rattle.storage.specs.Store.{sizeCheck, elementAt, soundCheck, Element, elements, find, storeWords, elementWords}
+use Rattle.storage.specs.Updates.{Answer, delete, enter, entered, newStore, parentCheck, deletionRefusal, entryRefusal, newStoreRefusal, raised, given, without}
+use Rattle.labelling.specs.Outputs.{listed, roomCheck}
+use Rattle.storage.specs.Cutting.{cut, cutRefusal}
+use Rattle.patterns.specs.Matching.{matchCall, matchRefusal}
 use Rattle.model.specs.Demand1.{Demand1}
-use Rattle.model.proofs.Lists.{keep-iff, length-keep, for-map}
-use Rattle.model.proofs.Refusals.{first-none, check-none}
-use Rattle.model.proofs.NameFiles.{refused-table, file-table, file-size, file-rows}
-use Rattle.model.proofs.Decode.{starts}
-use Rattle.model.proofs.LabelWords.{labelOf-good}
-use Rattle.model.proofs.Words.{Fit, length-elementWords, length-storeWords}
-use Rattle.model.proofs.Sizes.{length-over, length-placed, slice-iff, placed-only, length-elements-read, space-iff, take-over, drop-over, size-iff}
-use Rattle.model.proofs.Parents.{parentCheck-iff}
+use Rattle.labelling.proofs.Lists.{keep-iff, length-keep, for-map}
+use Rattle.labelling.proofs.Refusals.{first-none, check-none}
+use Rattle.labelling.proofs.NameFiles.{refused-table, file-table, file-size, file-rows}
+use Rattle.labelling.proofs.Decode.{starts}
+use Rattle.labelling.proofs.LabelWords.{labelOf-good}
+use Rattle.storage.proofs.Words.{Fit, length-elementWords, length-storeWords}
+use Rattle.labelling.proofs.Outputs.{length-over, take-over, drop-over, listed-refused}
+use Rattle.storage.proofs.Sizes.{length-placed, slice-iff, placed-only, length-elements-read, space-iff, size-iff}
+use Rattle.storage.proofs.Parents.{parentCheck-iff}
 use Rattle.model.proofs.Demand2.{store-elements}
 
 -- an answer that hangs on its refusal is, where it is refused, the refused one
@@ -33,13 +35,6 @@ refused-is : {A : Type 0} (refusal : A → Option Refusal) (o : Option Refusal) 
 unfolding elim?
 refused-is refusal none a f h k r e = absurd (Option·none-ne-some r (sym h ∙ e))
 refused-is refusal (some q) a f h k r e = ap f (Option·some-injective q r (sym (k q) ∙ e))
-
--- what is refused is listed with a count of 0 and the output as it was
-listed-refused : (o : Option Refusal) (count : ℕ) (ws out : List ℕ) (r : Refusal) → listed o count ws out .refusal ≡ some r →
-    listed o count ws out ≡ record { refusal = some r; count = 0; output = out }
-unfolding listed
-listed-refused none count ws out r e = absurd (Option·none-ne-some r e)
-listed-refused (some q) count ws out r e = ap {B = Listing} (λ o. record { refusal = o; count = 0; output = out }) e
 
 -- an output that holds the result keeps its length, and so does one that is refused
 length-listed : (o : Option Refusal) (count : ℕ) (ws out : List ℕ) → (o ≡ none → length ws ≤ length out) → length (listed o count ws out .output) ≡ length out

@@ -6,28 +6,29 @@ use Prim.Native.Nat.{ℕ, zero, suc, _≤_, _*_}
 use native.Mathlib.Omega.{arith}
 use lib.ListN.{length, getD, length-append}
 use lib.Dec.{T}
-use Rattle.model.specs.Basics.{_∈_}
-use Rattle.model.specs.Limits.{labelSize, maxDepth}
-use Rattle.model.specs.Names.{Clues, tableCheck, cluesOf}
-use Rattle.model.specs.Labels.{Label, within}
-use Rattle.model.specs.Twigs.{Twig, twigCheck, GoodTwig, readTwig, wanted}
-use Rattle.model.specs.Matches.{Match, matchWords, IsMatch, matches}
-use Rattle.model.specs.Store.{rootOf, sizeCheck, soundCheck, elements}
-use Rattle.model.specs.Matching.{streamsCheck, dealt, matchCall, matchesOf}
+use Rattle.labelling.specs.Basics.{_∈_}
+use Rattle.labelling.specs.Limits.{labelSize, maxDepth}
+use Rattle.labelling.specs.Names.{Clues, tableCheck, cluesOf}
+use Rattle.labelling.specs.Labels.{Label, within}
+use Rattle.patterns.specs.Twigs.{Twig, twigCheck, GoodTwig, readTwig, wanted}
+use Rattle.patterns.specs.Matches.{Match, matchWords, IsMatch, matches}
+use Rattle.storage.specs.Store.{rootOf, sizeCheck, soundCheck, elements}
+use Rattle.patterns.specs.Matching.{streamsCheck, dealt, matchCall, matchesOf}
 use Rattle.model.specs.Demand2.{Demand2, ListHolds, StoreHolds}
-use Rattle.model.proofs.Lists.{member-at}
-use Rattle.model.proofs.LabelOrder.{within-iff}
-use Rattle.model.proofs.TwigBytes.{accepted-twig}
-use Rattle.model.proofs.Matches.{matches-ascending, leaf-below, matches-iff}
-use Rattle.model.proofs.Paths.{path-solutions}
-use Rattle.model.proofs.LabelWords.{GoodLabel}
-use Rattle.model.proofs.MatchWords.{length-matchWords}
-use Rattle.model.proofs.Sizes.{size-iff, length-elements-read}
-use Rattle.model.proofs.Faults.{sound-check}
-use Rattle.model.proofs.SoundStore.{SoundElements, sound-elements}
-use Rattle.model.proofs.StreamChecks.{streams-accepted, streams-labels}
-use Rattle.model.proofs.StreamWords.{streams-sound}
-use Rattle.model.proofs.Listings.{Stored, cut-listed, match-listed, listed-whole, listed-refusal}
+use Rattle.labelling.proofs.Lists.{member-at}
+use Rattle.labelling.proofs.LabelOrder.{within-iff}
+use Rattle.patterns.proofs.TwigBytes.{accepted-twig}
+use Rattle.patterns.proofs.Matches.{matches-ascending, leaf-below, matches-iff}
+use Rattle.patterns.proofs.Paths.{path-solutions}
+use Rattle.labelling.proofs.LabelWords.{GoodLabel}
+use Rattle.patterns.proofs.MatchWords.{length-matchWords}
+use Rattle.storage.proofs.Sizes.{size-iff, length-elements-read}
+use Rattle.storage.proofs.Faults.{sound-check}
+use Rattle.storage.proofs.SoundStore.{SoundElements, sound-elements}
+use Rattle.patterns.proofs.StreamChecks.{streams-accepted, streams-labels}
+use Rattle.storage.proofs.StreamWords.{streams-sound}
+use Rattle.storage.proofs.Listings.{Stored, cut-listed, match-listed}
+use Rattle.labelling.proofs.Outputs.{listed-whole, listed-refusal}
 
 -- an ancestor's label is no longer than a descendant's
 within-length : (up low : Label) → T (within up low) → length up ≤ length low

@@ -9,14 +9,14 @@ use native.Mathlib.Nat.{mul-mod-right}
 use native.Mathlib.Omega.{arith}
 use lib.ListN.{length}
 use lib.Dec.{leb→le, le→leb, ltb, leb, eqb, ltb→lt, lt→ltb}
-use Rattle.model.specs.Limits.{maxBytes, recordSize}
-use Rattle.model.specs.Refusals.{shortOutput, storeSize}
-use Rattle.model.specs.Store.{sizeCheck}
+use Rattle.labelling.specs.Limits.{maxBytes, recordSize}
+use Rattle.labelling.specs.Refusals.{shortOutput, storeSize}
+use Rattle.storage.specs.Store.{sizeCheck}
 use Rattle.model.specs.Printing.{bufferCheck, fileCount, fileWords, storeFileCheck}
 use Rattle.model.specs.Bench.{wordBytes}
-use Rattle.model.proofs.Tests.{and-facts, eqb-alike}
-use Rattle.model.proofs.Refusals.{check-iff}
-use Rattle.model.proofs.Sizes.{size-iff}
+use Rattle.labelling.proofs.Tests.{and-facts, eqb-alike}
+use Rattle.labelling.proofs.Refusals.{check-iff}
+use Rattle.storage.proofs.Sizes.{size-iff}
 
 -- a store's file is accepted by its length exactly if that is not 0, at most 64,000 and a multiple of 40
 pub storeFile-iff : (len : ℕ) → storeFileCheck len ≡ none ↔ (((0 < len) × (len ≤ maxBytes)) × (len % (2 * recordSize) ≡ 0))

@@ -1,26 +1,20 @@
 -- The bench checks that the paper marks with a star, its printed example, and the examples of source document 004: what is computed, and what is expected.
 use mathlib.Core.List.{List, [], _∷_, _++_, map}
-use mathlib.Core.Option.{Option, none, some}
+use mathlib.Core.Option.{some}
 use Prim.Native.Nat.{ℕ, _+_, _/_, _%_}
 use lib.ListN.{replicate}
-use Rattle.model.specs.Basics.{elim?, last}
-use Rattle.model.specs.Refusals.{Refusal, Reply, value, refused}
-use Rattle.model.specs.Names.{led, cluesOf, readNames}
-use Rattle.model.specs.Numbers.{number, articleNumber}
-use Rattle.model.specs.Labels.{Label, labelOf, labelWords, decodeCall, kinshipCall}
-use Rattle.model.specs.Store.{Element, storeWords}
-use Rattle.model.specs.Updates.{Answer, newStore}
+use Rattle.labelling.specs.Basics.{elim?, last}
+use Rattle.labelling.specs.Names.{led, cluesOf, readNames}
+use Rattle.labelling.specs.Numbers.{number, articleNumber}
+use Rattle.labelling.specs.Labels.{Label, labelOf, labelWords, decodeCall, kinshipCall}
+use Rattle.storage.specs.Store.{storeWords}
+use Rattle.storage.specs.Updates.{Answer, newStore}
 use Rattle.model.specs.Printing.{text, joinedBy, labelText}
 use Rattle.model.specs.Book.{Call, entry, deletion, answer}
+use Rattle.labelling.specs.Examples.{shown, told, Check, is, benchTable}
+use Rattle.storage.specs.RefusalChecks.{element}
 
 -- The bench.
-
--- the bench's own table, 0 garage, 1 vehicle, 2 test, 3 axle, 4 curve, 5 note: its pairs 0 1, 1 2, 1 5, 2 5, 2 3, 2 4, 3 4 as a child-name file, read into rows
-unfoldable pub benchFile : List ℕ
-benchFile = 0 ∷ 1 ∷ 1 ∷ 2 ∷ 1 ∷ 5 ∷ 2 ∷ 5 ∷ 2 ∷ 3 ∷ 2 ∷ 4 ∷ 3 ∷ 4 ∷ []
-
-unfoldable pub benchTable : List (List ℕ)
-benchTable = readNames benchFile .table
 
 -- the labels that the entries among some calls answer, from an answer on
 unfoldable pub labelsAnswered : List (List ℕ) → Answer → List Call → List Label
@@ -40,24 +34,6 @@ numbersGiven calls = map last (labelsGiven benchTable calls)
 -- an entry of a name under a label
 unfoldable pub under : Label → ℕ → Call
 under l name = entry (labelWords l) name 8 9
-
--- a refusal as its number and place
-unfoldable pub shown : Option Refusal → List ℕ
-shown none = []
-shown (some r) = r .number ∷ r .place ∷ []
-
--- a reply as its value
-unfoldable pub told : Reply ℕ → List ℕ
-told (value n) = n ∷ []
-told (refused r) = []
-
--- a check: what the definitions give, and what the paper says
-pub record Check : Type 0 where
-  pub computed : List ℕ
-  pub expected : List ℕ
-
-abbrev pub is : List ℕ → List ℕ → Check
-is a b = record { computed = a; expected = b }
 
 -- three vehicles under the root
 unfoldable pub vehicles : List Call
@@ -125,10 +101,6 @@ unfoldable pub wordBytes : List ℕ → List ℕ
 wordBytes [] = []
 wordBytes (w ∷ ws) = w % 256 ∷ w / 256 ∷ wordBytes ws
 
--- an element without payload
-unfoldable pub element : Label → ℕ → ℕ → Element
-element l name next = record { label = l; name = name; next = next; payload0 = 0; payload1 = 0 }
-
 -- its store: next numbers each one above the last child's component or 0
 unfoldable pub garageStore : List ℕ
 garageStore =
@@ -142,10 +114,6 @@ garageStore =
     ∷ element (1 ∷ 0 ∷ 4 ∷ 0 ∷ []) 4 0
     ∷ element (2 ∷ []) 1 0
     ∷ []))
-
--- its twig
-unfoldable pub garageTwig : List ℕ
-garageTwig = 255 ∷ 1 ∷ 1 ∷ 0 ∷ 0 ∷ 1 ∷ 3 ∷ 0 ∷ 0 ∷ 1 ∷ 4 ∷ 0 ∷ []
 
 -- what is printed
 unfoldable pub garageText : List ℕ

@@ -5,15 +5,15 @@ use mathlib.Core.List.{List, [], _∷_, map}
 use mathlib.Core.Option.{Option, none, some}
 use Prim.Native.Nat.{ℕ, _+_, _*_, _/_, _%_, _≤_}
 use lib.ListN.{length, take}
-use Rattle.model.specs.Basics.{keep, last}
-use Rattle.model.specs.Limits.{maxComponent, recordSize}
-use Rattle.model.specs.Refusals.{Refusal, noNumber}
-use Rattle.model.specs.Names.{cluesOf, placeIn, tableCheck}
-use Rattle.model.specs.Numbers.{articleNumber}
-use Rattle.model.specs.Labels.{Label, labelOf}
-use Rattle.model.specs.Twigs.{childEdge}
-use Rattle.model.specs.Matches.{holds}
-use Rattle.model.specs.Updates.{given}
+use Rattle.labelling.specs.Basics.{keep, last}
+use Rattle.labelling.specs.Limits.{maxComponent, recordSize}
+use Rattle.labelling.specs.Refusals.{Refusal, noNumber}
+use Rattle.labelling.specs.Names.{cluesOf, placeIn, tableCheck}
+use Rattle.labelling.specs.Numbers.{articleNumber}
+use Rattle.labelling.specs.Labels.{Label, labelOf}
+use Rattle.patterns.specs.Twigs.{childEdge}
+use Rattle.patterns.specs.Matches.{holds}
+use Rattle.storage.specs.Updates.{given}
 use Rattle.model.specs.Book.{Line, Book, entry, deletion, lineElement, lineAt, answer, Run, opened, called}
 
 -- how many of the labels given out stand right below a label

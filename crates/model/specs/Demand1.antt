@@ -4,14 +4,14 @@ use mathlib.Core.List.{List, []}
 use mathlib.Core.Option.{some, none}
 use Prim.Native.Nat.{ℕ, _<_}
 use lib.ListN.{length, getD, replicate, take, drop}
-use Rattle.model.specs.Basics.{over}
-use Rattle.model.specs.Limits.{tableSize, labelSize}
-use Rattle.model.specs.Refusals.{Refusal}
-use Rattle.model.specs.Names.{readNames, emptyTable, tableCheck}
-use Rattle.model.specs.Labels.{decodeCall}
-use Rattle.model.specs.Updates.{newStore, enter, delete}
-use Rattle.model.specs.Cutting.{cut}
-use Rattle.model.specs.Matching.{matchCall}
+use Rattle.labelling.specs.Basics.{over}
+use Rattle.labelling.specs.Limits.{tableSize, labelSize}
+use Rattle.labelling.specs.Refusals.{Refusal}
+use Rattle.labelling.specs.Names.{readNames, emptyTable, tableCheck}
+use Rattle.labelling.specs.Labels.{decodeCall}
+use Rattle.storage.specs.Updates.{newStore, enter, delete}
+use Rattle.storage.specs.Cutting.{cut}
+use Rattle.patterns.specs.Matching.{matchCall}
 
 pub record Demand1 : Type 0 where
   -- the reader of a refused child-name file returns a table of empty clues; whatever it returns is an accepted table of 64 rows of 64

@@ -5,15 +5,16 @@ use mathlib.Core.List.{List, [], map}
 use mathlib.Core.Option.{none, some}
 use Prim.Native.Nat.{ℕ, _≤_, _-_, _*_}
 use lib.ListN.{length, getD}
-use Rattle.model.specs.Basics.{_∈_, Ascending, over, joined}
-use Rattle.model.specs.Limits.{labelSize}
-use Rattle.model.specs.Names.{Clues, cluesOf, tableCheck}
-use Rattle.model.specs.Labels.{Label, nameAt}
-use Rattle.model.specs.Twigs.{Twig, twigCheck, readTwig, wanted, OneLeaf, nameCheck, leafNames}
-use Rattle.model.specs.Matches.{earlier, matches, Match, GoodStreams, IsMatch, PathSolution, labelsWords, matchWords}
-use Rattle.model.specs.Store.{Element, elements, rootOf, sizeCheck, soundCheck}
-use Rattle.model.specs.Cutting.{streams, stream, cut, Listing, Cuts, fullList, cutWords}
-use Rattle.model.specs.Matching.{streamsCheck, dealt, matchCall}
+use Rattle.labelling.specs.Basics.{_∈_, Ascending, over, joined}
+use Rattle.labelling.specs.Limits.{labelSize}
+use Rattle.labelling.specs.Names.{Clues, cluesOf, tableCheck}
+use Rattle.labelling.specs.Labels.{Label, nameAt}
+use Rattle.patterns.specs.Twigs.{Twig, twigCheck, readTwig, wanted, OneLeaf, nameCheck, leafNames}
+use Rattle.patterns.specs.Matches.{earlier, matches, Match, GoodStreams, IsMatch, PathSolution, labelsWords, matchWords}
+use Rattle.storage.specs.Store.{Element, elements, rootOf, sizeCheck, soundCheck}
+use Rattle.storage.specs.Cutting.{streams, stream, cut, Cuts, fullList, cutWords}
+use Rattle.labelling.specs.Outputs.{Listing}
+use Rattle.patterns.specs.Matching.{streamsCheck, dealt, matchCall}
 
 -- The list of matches over streams that matching takes.
 pub record ListHolds (cl : Clues) (root : ℕ) (t : Twig) (streams : List (List Label)) : Type 0 where

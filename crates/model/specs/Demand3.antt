@@ -6,17 +6,18 @@ use mathlib.Core.Option.{none, some}
 use Prim.Native.Nat.{ℕ, _+_, _-_, _*_, _≤_, _<_}
 use lib.ListN.{length, getD, take, replicate}
 use lib.Dec.{T}
-use Rattle.model.specs.Basics.{_∈_, joined, over, Ascending}
-use Rattle.model.specs.Limits.{labelSize, recordSize}
-use Rattle.model.specs.Refusals.{Refusal}
-use Rattle.model.specs.Names.{cluesOf, tableCheck}
-use Rattle.model.specs.Labels.{Label, within, same, labelOf, labelWords, namesIn, path, decodeCall}
-use Rattle.model.specs.Twigs.{readTwig, twigCheck, nameCheck, wanted, leafNames}
-use Rattle.model.specs.Matches.{labelsWords, matchWords, less}
-use Rattle.model.specs.Store.{sizeCheck}
-use Rattle.model.specs.Updates.{given, newStore}
-use Rattle.model.specs.Cutting.{Listing, stream, cut, Cuts, fullList, cutWords}
-use Rattle.model.specs.Matching.{matchCall}
+use Rattle.labelling.specs.Basics.{_∈_, joined, over, Ascending}
+use Rattle.labelling.specs.Limits.{labelSize, recordSize}
+use Rattle.labelling.specs.Refusals.{Refusal}
+use Rattle.labelling.specs.Names.{cluesOf, tableCheck}
+use Rattle.labelling.specs.Labels.{Label, within, same, labelOf, labelWords, namesIn, path, decodeCall}
+use Rattle.patterns.specs.Twigs.{readTwig, twigCheck, nameCheck, wanted, leafNames}
+use Rattle.patterns.specs.Matches.{labelsWords, matchWords, less}
+use Rattle.storage.specs.Store.{sizeCheck}
+use Rattle.storage.specs.Updates.{given, newStore}
+use Rattle.labelling.specs.Outputs.{Listing}
+use Rattle.storage.specs.Cutting.{stream, cut, Cuts, fullList, cutWords}
+use Rattle.patterns.specs.Matching.{matchCall}
 use Rattle.model.specs.Book.{Line, Book, Call, entry, deletion, lineElement, lineAt, sooner, inOrder, bookElements, bookWords, bookRefusal, bookAfter, childLine, answer, Run, rootLine}
 
 -- What holds after the list of calls.

@@ -7,15 +7,15 @@ use Prim.Native.Char.{code}
 use Prim.Native.String.{String, [] as nil, _∷_ as _then_}
 use lib.ListN.{length}
 use lib.Dec.{ltb, leb, eqb}
-use Rattle.model.specs.Basics.{elim?, joined}
-use Rattle.model.specs.Limits.{recordSize, maxBytes}
-use Rattle.model.specs.Refusals.{Refusal, check, first, shortOutput, storeSize}
-use Rattle.model.specs.Names.{Clues, cluesOf, fileCheck, readNames}
-use Rattle.model.specs.Labels.{Label}
-use Rattle.model.specs.Twigs.{readTwig, twigCheck}
-use Rattle.model.specs.Matches.{Match, labelsWords, matchWords}
-use Rattle.model.specs.Store.{Element, elements, soundCheck, rootOf}
-use Rattle.model.specs.Cutting.{streams, fullList}
+use Rattle.labelling.specs.Basics.{elim?, joined}
+use Rattle.labelling.specs.Limits.{recordSize, maxBytes}
+use Rattle.labelling.specs.Refusals.{Refusal, check, first, shortOutput, storeSize}
+use Rattle.labelling.specs.Names.{Clues, cluesOf, fileCheck, readNames}
+use Rattle.labelling.specs.Labels.{Label}
+use Rattle.patterns.specs.Twigs.{readTwig, twigCheck}
+use Rattle.patterns.specs.Matches.{Match, labelsWords, matchWords}
+use Rattle.storage.specs.Store.{Element, elements, soundCheck, rootOf}
+use Rattle.storage.specs.Cutting.{streams, fullList}
 
 -- the bytes of a text
 unfoldable pub text : String → List ℕ

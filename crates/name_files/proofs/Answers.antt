@@ -5,13 +5,13 @@ use Prim.Native.Nat.{ℕ, _+_, _*_, _/_, _%_, _≤_, _<_}
 use native.Mathlib.Omega.{arith}
 use lib.ListN.{length, getD, set, replicate}
 use lib.Dec.{leb, eqb, leb→le, le→leb}
-use Rattle.model.specs.Limits.{maxName, tableSize, filler, maxFile}
-use Rattle.model.specs.Refusals.{refuse, fileLength, nameTooHigh, pairAgain}
-use Rattle.model.specs.Names.{pairs, pairsCheck, fileCheck, emptyTable, readNames, cluesOf, placeIn}
-use Rattle.model.proofs.Tests.{and-iff, eqb-alike}
-use Rattle.model.proofs.Refusals.{check-passed, check-failed, first-here, first-next}
-use Rattle.model.proofs.NameFiles.{accepted-read, refused-read}
-use Rattle.model.specs.Bench.{benchFile, benchTable}
+use Rattle.labelling.specs.Limits.{maxName, tableSize, filler, maxFile}
+use Rattle.labelling.specs.Refusals.{refuse, fileLength, nameTooHigh, pairAgain}
+use Rattle.labelling.specs.Names.{pairs, pairsCheck, fileCheck, emptyTable, readNames, cluesOf, placeIn}
+use Rattle.labelling.proofs.Tests.{and-iff, eqb-alike}
+use Rattle.labelling.proofs.Refusals.{check-passed, check-failed, first-here, first-next}
+use Rattle.labelling.proofs.NameFiles.{accepted-read, refused-read}
+use Rattle.labelling.specs.Examples.{benchFile, benchTable}
 use Rattle.refusals.specs.declared.Verdict.{Verdict}
 use Rattle.refusals.specs.declared.Verdict.the-variants as verdict
 use Rattle.refusals.specs.Answers.{verdictOf}

@@ -11,17 +11,17 @@ use native.Mathlib.Decide.{ℕ-discrete}
 use lib.ListN.{length, getD, take, drop, set, replicate, length-append, length-set}
 use lib.Seq.{split-at, take-all, take-suc, length-take-le, ext-getD, getD-set-same, getD-set-other, set-at}
 use lib.Dec.{T, eqb, eqb-refl, T-not, not-T, leb→le, le→leb}
-use Rattle.model.specs.Basics.{_∈_, keep, upTo, stands}
-use Rattle.model.specs.Limits.{maxName, tableSize, filler}
-use Rattle.model.specs.Refusals.{refuse, nameTooHigh, pairAgain}
-use Rattle.model.specs.Names.{isName, Pair, pairs, children, pairCheck, pairsCheck, rowOf, tableOf, cluesOf, placeIn}
-use Rattle.model.proofs.Tests.{and-iff, is-true, is-false, eqb-alike}
-use Rattle.model.proofs.Lists.{here, there, here-or-there, nowhere, member-at, keep-append}
-use Rattle.model.proofs.Refusals.{first-none, first-next, first-here, first-passed, last-passed, check-passed, check-failed}
-use Rattle.model.proofs.Once.{stands-iff, pigeonhole}
-use Rattle.model.proofs.NameTables.{placed-at, placeIn-none}
-use Rattle.model.proofs.NamePairs.{GoodPairs, pairsCheck-iff, children-iff}
-use Rattle.model.proofs.NameFiles.{children-good, tableOf-row, length-tableOf, clues-tableOf}
+use Rattle.labelling.specs.Basics.{_∈_, keep, upTo, stands}
+use Rattle.labelling.specs.Limits.{maxName, tableSize, filler}
+use Rattle.labelling.specs.Refusals.{refuse, nameTooHigh, pairAgain}
+use Rattle.labelling.specs.Names.{isName, Pair, pairs, children, pairCheck, pairsCheck, rowOf, tableOf, cluesOf, placeIn}
+use Rattle.labelling.proofs.Tests.{and-iff, is-true, is-false, eqb-alike}
+use Rattle.labelling.proofs.Lists.{here, there, here-or-there, nowhere, member-at, keep-append}
+use Rattle.labelling.proofs.Refusals.{first-none, first-next, first-here, first-passed, last-passed, check-passed, check-failed}
+use Rattle.labelling.proofs.Once.{stands-iff, pigeonhole}
+use Rattle.labelling.proofs.NameTables.{placed-at, placeIn-none}
+use Rattle.labelling.proofs.NamePairs.{GoodPairs, pairsCheck-iff, children-iff}
+use Rattle.labelling.proofs.NameFiles.{children-good, tableOf-row, length-tableOf, clues-tableOf}
 
 -- where the first pairs pass, the check goes on with the others
 pairsCheck-on : (i : ℕ) (earlier done qs : List Pair) → pairsCheck i earlier done ≡ none →

@@ -1,8 +1,8 @@
--- What the reader answers and leaves, by the definition of `model`.
+-- What the reader answers and leaves, by the definition of `labelling`.
 use Prim.Native.Nat.{ℕ}
 use mathlib.Core.List.{List}
-use Rattle.model.specs.Refusals.{refuse}
-use Rattle.model.specs.Names.{NamesRead, emptyTable}
+use Rattle.labelling.specs.Refusals.{refuse}
+use Rattle.labelling.specs.Names.{NamesRead, emptyTable}
 use Rattle.refusals.specs.declared.Verdict.{Verdict}
 use Rattle.refusals.specs.Answers.{verdictOf}
 

@@ -2,8 +2,8 @@
 use Prim.Native.Nat.{ℕ, _*_}
 use mathlib.Core.List.{List, map}
 use lib.ListN.{take, drop}
-use Rattle.model.specs.Basics.{upTo}
-use Rattle.model.specs.Limits.{tableSize}
+use Rattle.labelling.specs.Basics.{upTo}
+use Rattle.labelling.specs.Limits.{tableSize}
 
 -- row p of a table's bytes
 unfoldable pub rowIn : List ℕ → ℕ → List ℕ

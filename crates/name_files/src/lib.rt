@@ -12,8 +12,8 @@ use refusals::refuse;
 ghost use mathlib.Core.Path.{_≡_};
 ghost use Prim.Native.Nat.{_*_};
 ghost use lib.ListN.{length};
-ghost use Rattle.model.specs.Names.{readNames};
-ghost use Rattle.model.specs.Bench.{benchTable};
+ghost use Rattle.labelling.specs.Names.{readNames};
+ghost use Rattle.labelling.specs.Examples.{benchTable};
 ghost use Rattle.name_files.specs.Answers.{read, readOf, refusedBy};
 ghost use Rattle.name_files.specs.Rows.{rowsIn};
 

@@ -3,8 +3,8 @@ use Prim.Native.Nat.{ℕ}
 use mathlib.Core.Path.{_≡_}
 use lib.Dec.{eqb}
 use borrow.Author.Tests.{eq-eqb, ne-eqb}
-use Rattle.model.specs.Limits.{anyName}
-use Rattle.model.specs.Matches.{asks}
+use Rattle.labelling.specs.Limits.{anyName}
+use Rattle.patterns.specs.Matches.{asks}
 
 -- 255 asks for any name
 pub asks-any : (want name : ℕ) → want ≡ anyName → eqb want anyName ≡ asks want name

@@ -6,8 +6,8 @@ use native.Mathlib.Omega.{arith}
 use native.Mathlib.Numerals.{add-one}
 use lib.ListN.{length, getD, take, set, replicate, length-map, List·getD-map, List·getD-eq-default}
 use lib.Seq.{take-suc, take-all, length-take-le, set-at}
-use Rattle.model.specs.Limits.{tableSize}
-use Rattle.model.specs.Names.{namesOf, cluesOf}
+use Rattle.labelling.specs.Limits.{tableSize}
+use Rattle.labelling.specs.Names.{namesOf, cluesOf}
 use Rattle.names.specs.Answers.{lensOf}
 
 -- the length of a name's clue is read from the list

@@ -2,17 +2,20 @@
 use Prim.Native.Nat.{ℕ, zero, suc, _+_, _-_, _<_, _≤_}
 use mathlib.Core.Path.{_≡_, refl, sym, ap, _∙_}
 use mathlib.Core.List.{List, [], _∷_}
-use mathlib.Core.Bool.{Bool, true, false, not, _&&_, _||_, and-true, and-false, and-comm}
+use mathlib.Core.Bool.{Bool, true, false, cond, false≢true, not, _&&_, _||_, and-true, and-false, and-comm}
 use native.Mathlib.Nat.{not-suc-le-zero, le-of-suc-le-suc}
 use native.Mathlib.Omega.{arith}
 use lib.ListN.{length, getD, take, drop, set, replicate, length-take, drop-of-length-le}
 use lib.Dec.{eqb, eqb·zero-suc, eqb·suc-zero, eqb·suc-suc}
-use borrow.Author.Tests.{le-leb, lt-leb, not-true, not-false}
-use Rattle.model.specs.Basics.{all, stands}
-use Rattle.model.specs.Limits.{maxName, tableSize}
-use Rattle.model.specs.Refusals.{badTable, refuse, check}
-use Rattle.model.specs.Names.{isName, namesOf, twice, goodRow, tableCheck}
-use Rattle.model.proofs.Scans.{from-cons, tail-is, all-end, all-stop, all-on}
+use mir.Syntax.{w8}
+use mir.Val.{Fits}
+use borrow.Author.Tests.{le-leb, lt-leb, eq-eqb, ne-eqb, not-true, not-false}
+use Rattle.labelling.specs.Basics.{all, stands}
+use Rattle.labelling.specs.Limits.{maxName, tableSize, filler}
+use Rattle.labelling.specs.Refusals.{badTable, refuse, check}
+use Rattle.labelling.specs.Names.{isName, namesOf, twice, goodRow, tableCheck}
+use Rattle.labelling.proofs.Tests.{Tells, passes, fails, eq?}
+use Rattle.labelling.proofs.Scans.{from-cons, tail-is, all-end, all-stop, all-on}
 use Rattle.names.specs.Answers.{isFiller}
 use Rattle.refusals.specs.Answers.{verdictOf}
 use Rattle.refusals.specs.declared.Verdict.{Verdict}
@@ -100,6 +103,52 @@ module _ (names : List ℕ) (i : ℕ) (seen : List Bool) where
 -- at first no name is marked
 pub mark-from : (names : List ℕ) → Marked names 0 (replicate tableSize false)
 mark-from names = rw (none-marked tableSize names) (sym (and-true (once names)))
+
+-- the least number before index i, the filling if there is none
+module _ (row : List ℕ) (i least : ℕ) where
+  -- the row is filling alone if the least is filling and the rest is
+  abbrev pub Least : Type 0
+  Least = all isFiller row ≡ (eqb least filler && all isFiller (drop i row))
+
+  module _ (inv : Least) where
+    -- at the end the least tells
+    pub least-end : length row ≤ i → eqb least filler ≡ all isFiller row
+    unfolding all
+    least-end h = rw (inv, drop-of-length-le) (sym (and-true (eqb least filler)))
+
+    module _ (h : i < length row) where
+      -- a number below the least is not the filling
+      pub least-less : least ≤ filler → getD row i 0 < least → {n : ℕ} → n ≡ getD row i 0 → all isFiller row ≡ (eqb n filler && all isFiller (drop (i + 1) row))
+      unfolding all
+      least-less low k e =
+          let other : eqb (getD row i 0) filler ≡ false = ne-eqb (getD row i 0) filler (λ z. omega arith) in
+          rw (inv, from-cons row i 0, e, other) (and-false (eqb least filler))
+
+      -- any other byte is filling if the least is
+      pub least-same : least ≤ getD row i 0 → Fits w8 (getD row i 0) → {n : ℕ} → n ≡ least → all isFiller row ≡ (eqb n filler && all isFiller (drop (i + 1) row))
+      unfolding all
+      least-same k b e = rw (inv, from-cons row i 0, e) (go (eqb least filler) (eq? least filler))
+        where
+          go : (t : Bool) → Tells (least ≡ filler) t → (t && (isFiller (getD row i 0) && all isFiller (drop (i + 1) row))) ≡ (t && all isFiller (drop (i + 1) row))
+          go t (passes z) = let full : eqb (getD row i 0) filler ≡ true = eq-eqb (getD row i 0) filler (omega arith) in rw full
+          go t (fails z) = refl
+
+-- a row of filling alone has no names
+filling-names : (row : List ℕ) → all isFiller row ≡ true → namesOf row ≡ []
+unfolding all namesOf
+filling-names [] e = refl
+filling-names (x ∷ row) e = go (eqb x filler) e
+  where
+    go : (b : Bool) → (b && all isFiller row) ≡ true → cond b [] (x ∷ namesOf row) ≡ []
+    go true e = refl
+    go false e = absurd (false≢true e)
+
+-- and is good
+pub filling-good : (row : List ℕ) {x : Bool} → x ≡ all isFiller row → x ≡ true → true ≡ goodRow row
+unfolding goodRow all twice
+filling-good row is e =
+    let full : all isFiller row ≡ true = sym is ∙ e in
+    rw (filling-names row full, full)
 
 -- a row cut in two: n is how many names it has
 module _ (row : List ℕ) {n : ℕ} (is : n ≡ length (namesOf row)) where

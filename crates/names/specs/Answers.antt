@@ -1,12 +1,12 @@
--- What the answers of the code tell, by the definitions of `model`.
+-- What the answers of the code tell, by the definitions of `labelling`.
 use Prim.Native.Nat.{ℕ}
 use mathlib.Core.Option.{Option, none, some}
 use mathlib.Core.Bool.{Bool}
 use mathlib.Core.List.{List, map}
 use lib.ListN.{length}
 use lib.Dec.{eqb}
-use Rattle.model.specs.Limits.{filler}
-use Rattle.model.specs.Names.{namesOf}
+use Rattle.labelling.specs.Limits.{filler}
+use Rattle.labelling.specs.Names.{namesOf}
 use Rattle.names.specs.declared.Place.{Place}
 use Rattle.names.specs.declared.Place.the-variants as place
 use Rattle.names.specs.declared.Child.{Child}

@@ -5,9 +5,9 @@ use refusals::refuse;
 ghost use mathlib.Core.Path.{_≡_};
 ghost use mathlib.Core.Bool.{_&&_, not};
 ghost use lib.ListN.{length, getD};
-ghost use Rattle.model.specs.Basics.{all};
-ghost use Rattle.model.specs.Names as model;
-ghost use Rattle.model.specs.Matches as matches;
+ghost use Rattle.labelling.specs.Basics.{all};
+ghost use Rattle.labelling.specs.Names as model;
+ghost use Rattle.patterns.specs.Matches as matches;
 ghost use Rattle.refusals.specs.Answers.{verdictOf};
 ghost use Rattle.names.specs.Answers.{placeOf, childOf, isFiller, lensOf};
 
@@ -196,24 +196,29 @@ fn names_once(names: &[u8]) -> bool
     true
 }
 
-// Every number is the filling.
+// Every number is the filling: the least is, and no byte is greater. The loop has no exit, so it may take many bytes a step.
 fn all_filler(rest: &[u8]) -> bool
     ensures { λ r. ⌜ r ≡ all isFiller (now (rest .entry)) ⌝ }
 {
+    let mut least: u8 = FILLER;
     let mut i: usize = 0;
     while i < rest.len() {
-        if rest[i] != FILLER {
-            return false;
+        let x = rest[i];
+        if x < least {
+            least = x;
         }
         i += 1;
     }
-    true
+    least == FILLER
 }
 
-// A row holds names, each once, and then the filling alone.
+// A row holds names, each once, and then the filling alone. Most rows have no names, so that is asked first.
 fn row_good(row: &[u8]) -> bool
     ensures { λ r. ⌜ r ≡ model.goodRow (now (row .entry)) ⌝ }
 {
+    if all_filler(row) {
+        return true;
+    }
     let n = row_len(row);
     names_once(&row[..n]) && all_filler(&row[n..])
 }

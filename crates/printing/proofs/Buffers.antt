@@ -5,13 +5,13 @@ use mathlib.Core.Path.{_≡_, refl, sym, ap, _∙_}
 use mathlib.Core.List.{List, [], _∷_, _++_, append-nil, map-append}
 use native.Mathlib.Omega.{arith}
 use lib.ListN.{length, take, drop, set, length-append, length-map, length-set}
-use Rattle.model.specs.Basics.{over, joined}
-use Rattle.model.specs.Limits.{labelSize}
-use Rattle.model.specs.Labels.{Label}
-use Rattle.model.specs.Twigs.{Twig, leafNames}
-use Rattle.model.specs.Matches.{labelsWords}
-use Rattle.model.proofs.Sizes.{length-over}
-use Rattle.model.proofs.StreamWords.{counted, laid}
+use Rattle.labelling.specs.Basics.{over, joined}
+use Rattle.labelling.specs.Limits.{labelSize}
+use Rattle.labelling.specs.Labels.{Label}
+use Rattle.patterns.specs.Twigs.{Twig, leafNames}
+use Rattle.patterns.specs.Matches.{labelsWords}
+use Rattle.labelling.proofs.Outputs.{length-over}
+use Rattle.storage.proofs.StreamWords.{counted, laid}
 use Rattle.words.proofs.Words.{over-middle}
 use Rattle.words.specs.Writing.{written}
 use Rattle.words.proofs.Writing.{written-over, written-after, written-one}

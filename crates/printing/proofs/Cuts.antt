@@ -5,19 +5,20 @@ use mathlib.Core.Path.{_≡_, ap, _∙_}
 use mathlib.Core.List.{List}
 use mathlib.Core.Option.{none}
 use lib.ListN.{length}
-use Rattle.model.specs.Basics.{_∈_, over}
-use Rattle.model.specs.Limits.{maxDepth}
-use Rattle.model.specs.Refusals.{refuse, shortOutput}
-use Rattle.model.specs.Names.{cluesOf}
-use Rattle.model.specs.Labels.{Label}
-use Rattle.model.specs.Twigs.{nameCheck}
-use Rattle.model.specs.Matches.{labelsWords}
-use Rattle.model.specs.Store.{elements, rootOf}
-use Rattle.model.specs.Cutting as model
-use Rattle.model.proofs.Refusals.{first-rest, first-last}
-use Rattle.model.proofs.SoundStore.{SoundElements}
-use Rattle.model.proofs.StreamWords.{for-stream}
-use Rattle.model.proofs.Listings.{listed-refusal, listed-whole}
+use Rattle.labelling.specs.Basics.{_∈_, over}
+use Rattle.labelling.specs.Limits.{maxDepth}
+use Rattle.labelling.specs.Refusals.{refuse, shortOutput}
+use Rattle.labelling.specs.Names.{cluesOf}
+use Rattle.labelling.specs.Labels.{Label}
+use Rattle.patterns.specs.Twigs.{nameCheck}
+use Rattle.patterns.specs.Matches.{labelsWords}
+use Rattle.storage.specs.Store.{elements, rootOf}
+use Rattle.labelling.specs.Outputs as outputs
+use Rattle.storage.specs.Cutting as model
+use Rattle.labelling.proofs.Refusals.{first-rest, first-last}
+use Rattle.storage.proofs.SoundStore.{SoundElements}
+use Rattle.storage.proofs.StreamWords.{for-stream}
+use Rattle.labelling.proofs.Outputs.{listed-refusal, listed-whole}
 use Rattle.model.proofs.Demand2.{store-elements}
 use Rattle.refusals.specs.Answers.{verdictOf, filled, listingOf}
 use Rattle.refusals.specs.declared.Listing.{Listing}
@@ -42,7 +43,7 @@ module _ {rows : List (List ℕ)} {ws : List ℕ} {count : ℕ} (store : Accepte
 
   -- of the checks of cutting only that of the output can refuse
   cut-refusal : (want : ℕ) (out : List ℕ) → nameCheck want 0 ≡ none →
-      model.cutRefusal rows ws count want out ≡ model.roomCheck (labelsWords (streamIn ws count want)) out
+      model.cutRefusal rows ws count want out ≡ outputs.roomCheck (labelsWords (streamIn ws count want)) out
   unfolding model.cutRefusal
   cut-refusal want out name =
       first-rest _ _ (store .table) ∙ first-rest _ _ (store .size) ∙ first-rest _ _ (store .sound) ∙ first-rest _ _ name ∙ first-last _
@@ -51,7 +52,7 @@ module _ {rows : List (List ℕ)} {ws : List ℕ} {count : ℕ} (store : Accepte
   module _ (want : ℕ) (out : List ℕ) (name : nameCheck want 0 ≡ none) {a : Listing} {left : List ℕ}
       (cut : filled a left ≡ listingOf (model.cut rows ws count want out)) where
     -- the verdict is that on the output
-    cut-verdict : a .verdict ≡ verdictOf (model.roomCheck (labelsWords (streamIn ws count want)) out)
+    cut-verdict : a .verdict ≡ verdictOf (outputs.roomCheck (labelsWords (streamIn ws count want)) out)
     unfolding model.cut
     cut-verdict = ap (λ f. f .answer .verdict) cut ∙ ap verdictOf (listed-refusal _ _ _ _ ∙ cut-refusal want out name)
 

@@ -9,14 +9,14 @@ use native.Mathlib.Numerals.{add-one}
 use native.Mathlib.Omega.{arith}
 use lib.ListN.{length, getD, take, drop, length-append, take-append-drop}
 use lib.Seq.{take-suc}
-use Rattle.model.specs.Basics.{_∈_, elim?, joined}
-use Rattle.model.specs.Limits.{maxDepth, labelSize}
-use Rattle.model.specs.Labels.{Label, labelWords}
-use Rattle.model.specs.Twigs.{Twig, nodeAt, isLeaf, wanted, leafNames}
-use Rattle.model.specs.Matches.{labelsWords}
-use Rattle.model.proofs.MatchWords.{length-labelsWords}
-use Rattle.model.proofs.StreamChecks.{length-wanted}
-use Rattle.model.proofs.StreamWords.{laid}
+use Rattle.labelling.specs.Basics.{_∈_, elim?, joined}
+use Rattle.labelling.specs.Limits.{maxDepth, labelSize}
+use Rattle.labelling.specs.Labels.{Label, labelWords}
+use Rattle.patterns.specs.Twigs.{Twig, nodeAt, isLeaf, wanted, leafNames}
+use Rattle.patterns.specs.Matches.{labelsWords}
+use Rattle.patterns.proofs.MatchWords.{length-labelsWords}
+use Rattle.patterns.proofs.StreamChecks.{length-wanted}
+use Rattle.storage.proofs.StreamWords.{laid}
 use Rattle.twigs.proofs.Leaves.{wanted-at, wanted-from}
 
 -- the leaves of two lists of records

@@ -6,19 +6,19 @@ use mathlib.Core.List.{List, [], _++_}
 use mathlib.Core.Option.{none}
 use native.Mathlib.Omega.{arith}
 use lib.ListN.{length, drop, length-append}
-use Rattle.model.specs.Basics.{over}
-use Rattle.model.specs.Limits.{labelSize}
-use Rattle.model.specs.Names.{cluesOf}
-use Rattle.model.specs.Twigs.{readTwig, wanted}
-use Rattle.model.specs.Matches.{Match, matchWords}
-use Rattle.model.specs.Cutting.{roomCheck}
-use Rattle.model.specs.Matching as model
+use Rattle.labelling.specs.Basics.{over}
+use Rattle.labelling.specs.Limits.{labelSize}
+use Rattle.labelling.specs.Names.{cluesOf}
+use Rattle.patterns.specs.Twigs.{readTwig, wanted}
+use Rattle.patterns.specs.Matches.{Match, matchWords}
+use Rattle.labelling.specs.Outputs.{roomCheck}
+use Rattle.patterns.specs.Matching as model
 use Rattle.model.specs.Printing.{matchesText, refusalText, bufferCheck}
-use Rattle.model.proofs.Refusals.{first-rest, first-last}
-use Rattle.model.proofs.TwigBytes.{accepted-twig}
-use Rattle.model.proofs.Matches.{matches-iff}
-use Rattle.model.proofs.StreamChecks.{streams-labels}
-use Rattle.model.proofs.Listings.{listed-refusal, listed-whole}
+use Rattle.labelling.proofs.Refusals.{first-rest, first-last}
+use Rattle.patterns.proofs.TwigBytes.{accepted-twig}
+use Rattle.patterns.proofs.Matches.{matches-iff}
+use Rattle.patterns.proofs.StreamChecks.{streams-labels}
+use Rattle.labelling.proofs.Outputs.{listed-refusal, listed-whole}
 use Rattle.model.proofs.FileStores.{buffer-iff}
 use Rattle.model.proofs.Demand2.{match-short}
 use Rattle.refusals.specs.Answers.{verdictOf, filled, listingOf}

@@ -6,12 +6,12 @@ use mathlib.Core.List.{List, _∷_}
 use mathlib.Core.Option.{none}
 use native.Mathlib.Omega.{arith}
 use lib.ListN.{length, take, replicate, length-replicate}
-use Rattle.model.specs.Basics.{over}
-use Rattle.model.specs.Limits.{recordSize}
-use Rattle.model.specs.Names.{tableCheck, fileCheck, readNames}
-use Rattle.model.specs.Store.{sizeCheck}
+use Rattle.labelling.specs.Basics.{over}
+use Rattle.labelling.specs.Limits.{recordSize}
+use Rattle.labelling.specs.Names.{tableCheck, fileCheck, readNames}
+use Rattle.storage.specs.Store.{sizeCheck}
 use Rattle.model.specs.Printing.{refusalText, fileWords, storeFileCheck, fileCount, fileElements, fileMatches, printRefusal, printed}
-use Rattle.model.proofs.NameFiles.{read-refusal, file-table}
+use Rattle.labelling.proofs.NameFiles.{read-refusal, file-table}
 use Rattle.model.proofs.FileStores.{storeFile-iff, storeFile-sized, length-fileWords}
 use Rattle.refusals.specs.Answers.{verdictOf}
 use Rattle.refusals.specs.declared.Refusal as declared

@@ -10,12 +10,12 @@ use native.Mathlib.Omega.{arith}
 use lib.ListN.{length, take, drop, length-append}
 use lib.Dec.{leb→le, le→leb}
 use borrow.Author.Tests.{le-leb, lt-leb}
-use Rattle.model.specs.Basics.{over}
-use Rattle.model.specs.Refusals.{refuse, check, shortOutput}
-use Rattle.model.specs.Cutting.{roomCheck}
+use Rattle.labelling.specs.Basics.{over}
+use Rattle.labelling.specs.Refusals.{refuse, check, shortOutput}
+use Rattle.labelling.specs.Outputs.{roomCheck}
 use Rattle.model.specs.Printing.{bufferCheck}
-use Rattle.model.proofs.Refusals.{check-iff, check-failed}
-use Rattle.model.proofs.Sizes.{take-over}
+use Rattle.labelling.proofs.Refusals.{check-iff, check-failed}
+use Rattle.labelling.proofs.Outputs.{take-over}
 use Rattle.refusals.specs.Answers.{verdictOf}
 use Rattle.refusals.specs.declared.Refusal as declared
 use Rattle.refusals.specs.declared.Verdict.{Verdict}

@@ -8,19 +8,20 @@ use mathlib.Core.Option.{none, Option·some-ne-none}
 use native.Mathlib.Omega.{arith}
 use lib.ListN.{length, take, drop, set, length-append, length-drop}
 use lib.Seq.{take-all}
-use Rattle.model.specs.Basics.{over, joined}
-use Rattle.model.specs.Limits.{maxElements, labelSize}
-use Rattle.model.specs.Refusals.{refuse, shortOutput}
-use Rattle.model.specs.Twigs.{nodeAt, readTwig, isLeaf, wanted, leafNames, nameCheck, twigCheck}
-use Rattle.model.specs.Matches.{labelsWords}
-use Rattle.model.specs.Store.{elements}
-use Rattle.model.specs.Cutting as model
-use Rattle.model.proofs.Scans.{tail-is}
-use Rattle.model.proofs.TwigBytes.{twigCheck-iff, nameCheck-iff, readTwig-at, length-readTwig}
-use Rattle.model.proofs.Sizes.{size-iff, length-elements-read}
-use Rattle.model.proofs.StreamWords.{laid, length-stream}
-use Rattle.model.proofs.StreamChecks.{length-wanted}
-use Rattle.model.proofs.MatchWords.{length-labelsWords}
+use Rattle.labelling.specs.Basics.{over, joined}
+use Rattle.labelling.specs.Limits.{maxElements, labelSize}
+use Rattle.labelling.specs.Refusals.{refuse, shortOutput}
+use Rattle.patterns.specs.Twigs.{nodeAt, readTwig, isLeaf, wanted, leafNames, nameCheck, twigCheck}
+use Rattle.patterns.specs.Matches.{labelsWords}
+use Rattle.storage.specs.Store.{elements}
+use Rattle.labelling.specs.Outputs as outputs
+use Rattle.storage.specs.Cutting as model
+use Rattle.labelling.proofs.Scans.{tail-is}
+use Rattle.patterns.proofs.TwigBytes.{twigCheck-iff, nameCheck-iff, readTwig-at, length-readTwig}
+use Rattle.storage.proofs.Sizes.{size-iff, length-elements-read}
+use Rattle.storage.proofs.StreamWords.{laid, length-stream}
+use Rattle.patterns.proofs.StreamChecks.{length-wanted}
+use Rattle.patterns.proofs.MatchWords.{length-labelsWords}
 use Rattle.refusals.specs.Answers.{verdictOf, filled, refusedBy, listingOf}
 use Rattle.refusals.specs.declared.Listing.{Listing}
 use Rattle.refusals.specs.declared.Refusal as declared
@@ -71,7 +72,7 @@ module _ (rows : List (List ℕ)) (ws : List ℕ) (count : ℕ) (store : Accepte
     {n : ℕ} (size : n ≡ length (readTwig twig)) where
   -- at the end all streams are cut
   pub streams-all : n ≤ q →
-      (verdict.Passed ≡ verdictOf (model.roomCheck (labelsWords (allLabels ws count twig)) buffer₀)) ×
+      (verdict.Passed ≡ verdictOf (outputs.roomCheck (labelsWords (allLabels ws count twig)) buffer₀)) ×
       (_≡_ {A = Verdict} verdict.Passed verdict.Passed → Cut ws count twig labels counts₀ counts buffer₀ buffer)
   streams-all h =
       let whole : take q (wanted (readTwig twig)) ≡ wanted (readTwig twig) = take-all q (wanted (readTwig twig)) (omega (arith, length-wanted (readTwig twig))) in
@@ -104,7 +105,7 @@ module _ (rows : List (List ℕ)) (ws : List ℕ) (count : ℕ) (store : Accepte
 
       -- a stream for which there is no room
       pub streams-short : {x : declared.Refusal} {r : Listing} {counts' buffer' : List ℕ} → a .verdict ≡ verdict.Refused x → r ≡ refusedBy (a .verdict) →
-          (r .verdict ≡ verdictOf (model.roomCheck (labelsWords (allLabels ws count twig)) buffer₀)) ×
+          (r .verdict ≡ verdictOf (outputs.roomCheck (labelsWords (allLabels ws count twig)) buffer₀)) ×
           (r .verdict ≡ verdict.Passed → Cut ws count twig (r .count) counts₀ counts' buffer₀ buffer')
       streams-short f g =
           let s = streamIn ws count in

@@ -11,18 +11,19 @@ use lib.ListN.{length, getD, take, length-map}
 use lib.Seq.{getD-take}
 use lib.Dec.{le→leb}
 use borrow.Author.Needs.{fits-under}
-use Rattle.model.specs.Limits.{maxName, labelSize, nameWord, recordSize}
-use Rattle.model.specs.Refusals.{badRoot}
-use Rattle.model.specs.Names.{cluesOf, isName, rootCheck}
-use Rattle.model.specs.Twigs.{readTwig, wanted, leafNames, twigCheck}
-use Rattle.model.specs.Matches.{labelsWords}
-use Rattle.model.specs.Store.{readElement, elements, rootOf}
-use Rattle.model.specs.Cutting.{roomCheck, fullList}
-use Rattle.model.specs.Matching.{matchesOf}
+use Rattle.labelling.specs.Limits.{maxName, labelSize, nameWord, recordSize}
+use Rattle.labelling.specs.Refusals.{badRoot}
+use Rattle.labelling.specs.Names.{cluesOf, isName, rootCheck}
+use Rattle.patterns.specs.Twigs.{readTwig, wanted, leafNames, twigCheck}
+use Rattle.patterns.specs.Matches.{labelsWords}
+use Rattle.storage.specs.Store.{readElement, elements, rootOf}
+use Rattle.labelling.specs.Outputs.{roomCheck}
+use Rattle.storage.specs.Cutting.{fullList}
+use Rattle.patterns.specs.Matching.{matchesOf}
 use Rattle.model.specs.Printing.{refusalText, bufferCheck}
-use Rattle.model.proofs.Refusals.{check-passed}
-use Rattle.model.proofs.Sizes.{size-iff, length-elements-read}
-use Rattle.model.proofs.StreamWords.{dealt-wanted, streams-laid, counted, laid}
+use Rattle.labelling.proofs.Refusals.{check-passed}
+use Rattle.storage.proofs.Sizes.{size-iff, length-elements-read}
+use Rattle.storage.proofs.StreamWords.{dealt-wanted, streams-laid, counted, laid}
 use Rattle.refusals.specs.Answers.{verdictOf}
 use Rattle.refusals.specs.declared.Listing.{Listing}
 use Rattle.refusals.specs.declared.Refusal as declared

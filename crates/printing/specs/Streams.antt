@@ -4,14 +4,14 @@ use mathlib.Core.List.{List, map}
 use mathlib.Core.Option.{none}
 use Prim.Native.Nat.{ℕ}
 use lib.ListN.{length}
-use Rattle.model.specs.Basics.{joined, over}
-use Rattle.model.specs.Names.{cluesOf, tableCheck, rootCheck}
-use Rattle.model.specs.Labels.{Label}
-use Rattle.model.specs.Twigs.{readTwig, wanted, leafNames, twigCheck}
-use Rattle.model.specs.Matches.{labelsWords}
-use Rattle.model.specs.Store.{elements, sizeCheck, soundCheck}
-use Rattle.model.specs.Cutting.{stream, streams}
-use Rattle.model.specs.Matching.{streamsCheck}
+use Rattle.labelling.specs.Basics.{joined, over}
+use Rattle.labelling.specs.Names.{cluesOf, tableCheck, rootCheck}
+use Rattle.labelling.specs.Labels.{Label}
+use Rattle.patterns.specs.Twigs.{readTwig, wanted, leafNames, twigCheck}
+use Rattle.patterns.specs.Matches.{labelsWords}
+use Rattle.storage.specs.Store.{elements, sizeCheck, soundCheck}
+use Rattle.storage.specs.Cutting.{stream, streams}
+use Rattle.patterns.specs.Matching.{streamsCheck}
 
 -- an accepted store: its table, its size and its records
 pub record Accepted (rows : List (List ℕ)) (ws : List ℕ) (count : ℕ) : Type 0 where

@@ -4,13 +4,13 @@ use mathlib.Core.List.{List, [], _∷_}
 use mathlib.Core.Option.{Option}
 use Prim.Native.Nat.{ℕ}
 use lib.ListN.{length}
-use Rattle.model.specs.Basics.{elim?, over, joined}
-use Rattle.model.specs.Refusals.{Refusal, first}
-use Rattle.model.specs.Names.{cluesOf}
-use Rattle.model.specs.Twigs.{readTwig, twigCheck}
-use Rattle.model.specs.Matches.{Match, labelsWords, matchWords}
-use Rattle.model.specs.Store.{elements, soundCheck, rootOf}
-use Rattle.model.specs.Cutting.{streams, fullList}
+use Rattle.labelling.specs.Basics.{elim?, over, joined}
+use Rattle.labelling.specs.Refusals.{Refusal, first}
+use Rattle.labelling.specs.Names.{cluesOf}
+use Rattle.patterns.specs.Twigs.{readTwig, twigCheck}
+use Rattle.patterns.specs.Matches.{Match, labelsWords, matchWords}
+use Rattle.storage.specs.Store.{elements, soundCheck, rootOf}
+use Rattle.storage.specs.Cutting.{streams, fullList}
 use Rattle.model.specs.Printing.{matchesText, refusalText, bufferCheck}
 use Rattle.refusals.specs.declared.Refusal as declared
 

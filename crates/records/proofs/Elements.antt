@@ -5,8 +5,8 @@ use mathlib.Core.List.{List}
 use native.Mathlib.Omega.{arith}
 use lib.ListN.{getD, take, drop}
 use lib.Seq.{drop-drop}
-use Rattle.model.specs.Limits.{recordSize}
-use Rattle.model.specs.Store.{Element, readElement, records, elements}
+use Rattle.labelling.specs.Limits.{recordSize}
+use Rattle.storage.specs.Store.{Element, readElement, records, elements}
 use Rattle.records.specs.Records.{recordAt}
 
 -- record r of what stands behind record 0 is record r + 1

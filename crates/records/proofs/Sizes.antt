@@ -5,10 +5,10 @@ use mathlib.Core.Bool.{Bool, true, false, not}
 use native.Mathlib.Omega.{arith}
 use lib.Dec.{ltb, eqb}
 use borrow.Author.Tests.{eq-eqb, ne-eqb, le-ltb, lt-ltb, le-leb, lt-leb, not-true, not-false}
-use Rattle.model.specs.Limits.{recordSize, maxElements}
-use Rattle.model.specs.Refusals.{check, refuse, storeSize, noSpace}
-use Rattle.model.specs.Store.{isSlice, sizeCheck}
-use Rattle.model.specs.Updates.{spaceCheck}
+use Rattle.labelling.specs.Limits.{recordSize, maxElements}
+use Rattle.labelling.specs.Refusals.{check, refuse, storeSize, noSpace}
+use Rattle.storage.specs.Store.{isSlice, sizeCheck}
+use Rattle.storage.specs.Updates.{spaceCheck}
 use Rattle.refusals.specs.Answers.{verdictOf}
 use Rattle.refusals.specs.declared.Verdict.{Verdict}
 use Rattle.refusals.specs.declared.Verdict.the-variants as verdict

@@ -5,9 +5,9 @@ use refusals::refuse;
 ghost use mathlib.Core.Path.{_≡_};
 ghost use Prim.Native.Nat.{_+_, _*_, _≤_};
 ghost use lib.ListN.{length, getD};
-ghost use Rattle.model.specs.Labels.{labelOf};
-ghost use Rattle.model.specs.Store as model;
-ghost use Rattle.model.specs.Updates.{spaceCheck};
+ghost use Rattle.labelling.specs.Labels.{labelOf};
+ghost use Rattle.storage.specs.Store as model;
+ghost use Rattle.storage.specs.Updates.{spaceCheck};
 ghost use Rattle.refusals.specs.Answers.{verdictOf};
 ghost use Rattle.records.specs.Records.{recordAt};
 

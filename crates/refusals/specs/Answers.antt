@@ -1,9 +1,9 @@
--- What the code's answers tell, by the definitions of `model`.
+-- What the code's answers tell, by the definitions of `labelling`.
 use mathlib.Core.List.{List}
 use mathlib.Core.Option.{Option, none, some}
 use Prim.Native.Nat.{ℕ}
-use Rattle.model.specs.Refusals as model
-use Rattle.model.specs.Cutting as outputs
+use Rattle.labelling.specs.Refusals as model
+use Rattle.labelling.specs.Outputs as outputs
 use Rattle.refusals.specs.declared.Refusal.{Refusal}
 use Rattle.refusals.specs.declared.Verdict.{Verdict}
 use Rattle.refusals.specs.declared.Verdict.the-variants as verdict

@@ -7,13 +7,13 @@ use mathlib.Core.Option.{Option, none, some}
 use native.Mathlib.Omega.{arith}
 use lib.ListN.{length}
 use lib.Dec.{ltb, leb}
-use Rattle.model.specs.Basics.{elim?, all}
-use Rattle.model.specs.Limits.{recordSize, maxElements}
-use Rattle.model.specs.Refusals.{refuse, badTable, storeSize}
-use Rattle.model.specs.Names.{Clues, cluesOf, goodRow, tableCheck}
-use Rattle.model.specs.Store as model
-use Rattle.model.proofs.Refusals.{first-rest, first-here, first-last}
-use Rattle.model.proofs.Sizes.{size-iff}
+use Rattle.labelling.specs.Basics.{elim?, all}
+use Rattle.labelling.specs.Limits.{recordSize, maxElements}
+use Rattle.labelling.specs.Refusals.{refuse, badTable, storeSize}
+use Rattle.labelling.specs.Names.{Clues, cluesOf, goodRow, tableCheck}
+use Rattle.storage.specs.Store as model
+use Rattle.labelling.proofs.Refusals.{first-rest, first-here, first-last}
+use Rattle.storage.proofs.Sizes.{size-iff}
 use Rattle.refusals.specs.Answers.{verdictOf}
 use Rattle.refusals.specs.declared.Refusal.{Refusal}
 use Rattle.refusals.specs.declared.Verdict.{Verdict}

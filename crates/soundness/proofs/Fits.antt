@@ -10,11 +10,11 @@ use mathlib.Core.Logic.{by-cases}
 use native.Mathlib.Decide.{decLt}
 use lib.Dec.{T, eqb, leb, ltb, leb→le}
 use borrow.Author.Tests.{eq-eqb, ne-eqb, le-leb, lt-leb, leb-true, eqb-true, not-true, not-false}
-use Rattle.model.specs.Limits.{maxComponent, maxDepth, labelSize, recordSize}
-use Rattle.model.specs.Labels.{isComponent}
-use Rattle.model.specs.Store.{laidOut}
-use Rattle.model.proofs.Tests.{is-true, is-false, and-iff}
-use Rattle.model.proofs.LabelWords.{IsLabel, isLabel-iff}
+use Rattle.labelling.specs.Limits.{maxComponent, maxDepth, labelSize, recordSize}
+use Rattle.labelling.specs.Labels.{isComponent}
+use Rattle.storage.specs.Store.{laidOut}
+use Rattle.labelling.proofs.Tests.{is-true, is-false, and-iff}
+use Rattle.labelling.proofs.LabelWords.{IsLabel, isLabel-iff}
 use Rattle.records.specs.Records.{recordAt}
 use Rattle.records.proofs.Parts.{record-word, record-depth}
 use Rattle.soundness.specs.Rules.{Laid, depthFits, wordFits}

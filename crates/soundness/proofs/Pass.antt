@@ -11,18 +11,17 @@ use lib.ListN.{length, getD, take, set}
 use lib.Seq.{take-take, take-all, length-take-le, getD-set-same, getD-set-other}
 use lib.Dec.{T, ltb, eqb}
 use borrow.Author.Tests.{eqb-true}
-use Rattle.model.specs.Basics.{elim?, last}
-use Rattle.model.specs.Limits.{recordSize}
-use Rattle.model.specs.Names.{Clues}
-use Rattle.model.specs.Labels.{Label, before, shared, same, above}
-use Rattle.model.specs.Store.{Element, Rule, readElement, find, test, laidOut, leads, closed, broken, parentRule, nameRule, lastRule, nextRule}
-use Rattle.model.proofs.Tests.{Tells, passes, fails, eq?, and-iff, eqb-alike}
-use Rattle.model.proofs.Lists.{nowhere, for-cons}
-use Rattle.model.proofs.LabelOrder.{before-order, same?}
-use Rattle.model.proofs.Kinship.{shared-alike, shared-low}
-use Rattle.model.proofs.Relaid.{test-none}
-use Rattle.model.proofs.Sound.{test-passes}
-use Rattle.model.proofs.SoundStore.{test-rest}
+use Rattle.labelling.specs.Basics.{elim?, last}
+use Rattle.labelling.specs.Limits.{recordSize}
+use Rattle.labelling.specs.Names.{Clues}
+use Rattle.labelling.specs.Labels.{Label, before, shared, same, above}
+use Rattle.storage.specs.Store.{Element, Rule, readElement, find, test, laidOut, leads, closed, broken, parentRule, nameRule, lastRule, nextRule}
+use Rattle.labelling.proofs.Tests.{Tells, passes, fails, eq?, and-iff, eqb-alike}
+use Rattle.labelling.proofs.Lists.{nowhere, for-cons}
+use Rattle.labelling.proofs.LabelOrder.{before-order, same?}
+use Rattle.labelling.proofs.Kinship.{shared-alike, shared-low}
+use Rattle.storage.proofs.Relaid.{test-none, test-passes}
+use Rattle.storage.proofs.SoundStore.{test-rest}
 use Rattle.records.specs.Records.{recordAt}
 use Rattle.records.proofs.Parts.{record-depth, record-label, record-long}
 use Rattle.soundness.specs.Rules.{Laid, brokenRoot, brokenBelow, brokenAt}

@@ -5,9 +5,9 @@ use mathlib.Core.List.{List}
 use native.Mathlib.Omega.{arith}
 use lib.ListN.{length, getD}
 use borrow.Author.Tests.{eqb-true}
-use Rattle.model.specs.Limits.{recordSize, maxDepth}
-use Rattle.model.specs.Names.{Clues}
-use Rattle.model.specs.Store.{readElement}
+use Rattle.labelling.specs.Limits.{recordSize, maxDepth}
+use Rattle.labelling.specs.Names.{Clues}
+use Rattle.storage.specs.Store.{readElement}
 use Rattle.records.specs.Records.{recordAt}
 use Rattle.soundness.specs.Rules.{Ready, brokenRoot, brokenBelow, brokenAt}
 use Rattle.soundness.specs.Answers.{checkOf}

@@ -7,14 +7,14 @@ use native.Mathlib.Omega.{arith}
 use lib.ListN.{length, getD}
 use lib.Dec.{eqb, ltb}
 use borrow.Author.Tests.{eq-eqb, ne-eqb, lt-ltb, le-ltb, le-leb, lt-leb, not-true, not-false}
-use Rattle.model.specs.Basics.{elim?, last}
-use Rattle.model.specs.Limits.{maxDepth, maxName, recordSize, nameWord, nextWord}
-use Rattle.model.specs.Refusals.{unsound}
-use Rattle.model.specs.Names.{Clues, led, isName}
-use Rattle.model.specs.Labels.{Label, before, shared, labelOf}
-use Rattle.model.specs.Store as model
-use Rattle.model.proofs.Faults.{rule-number}
-use Rattle.model.proofs.Kinship.{shared-low}
+use Rattle.labelling.specs.Basics.{elim?, last}
+use Rattle.labelling.specs.Limits.{maxDepth, maxName, recordSize, nameWord, nextWord}
+use Rattle.labelling.specs.Refusals.{unsound}
+use Rattle.labelling.specs.Names.{Clues, led, isName}
+use Rattle.labelling.specs.Labels.{Label, before, shared, labelOf}
+use Rattle.storage.specs.Store as model
+use Rattle.storage.proofs.Faults.{rule-number}
+use Rattle.labelling.proofs.Kinship.{shared-low}
 use Rattle.names.specs.Answers.{childOf}
 use Rattle.names.specs.declared.Child.{Child}
 use Rattle.names.specs.declared.Child.the-variants as child

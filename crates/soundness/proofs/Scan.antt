@@ -12,12 +12,12 @@ use lib.ListN.{length, getD, drop, set, replicate, length-set}
 use lib.Seq.{drop-drop}
 use lib.Dec.{T, eqb, ltb}
 use borrow.Author.Tests.{not-true}
-use Rattle.model.specs.Basics.{elim?}
-use Rattle.model.specs.Limits.{maxDepth, recordSize}
-use Rattle.model.specs.Names.{Clues}
-use Rattle.model.specs.Store as model
-use Rattle.model.proofs.Tests.{and-iff, is-true}
-use Rattle.model.proofs.Relaid.{laid-depth}
+use Rattle.labelling.specs.Basics.{elim?}
+use Rattle.labelling.specs.Limits.{maxDepth, recordSize}
+use Rattle.labelling.specs.Names.{Clues}
+use Rattle.storage.specs.Store as model
+use Rattle.labelling.proofs.Tests.{and-iff, is-true}
+use Rattle.storage.proofs.Relaid.{laid-depth}
 use Rattle.records.specs.Records.{recordAt}
 use Rattle.records.proofs.Parts.{record-depth}
 use Rattle.soundness.specs.Rules.{Laid, Ready, depthFits, brokenAt}

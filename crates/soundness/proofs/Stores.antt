@@ -4,12 +4,12 @@ use mathlib.Core.Path.{_≡_, _∙_}
 use mathlib.Core.List.{List, [], _∷_}
 use mathlib.Core.Option.{Option, none, some, Option·none-ne-some}
 use lib.ListN.{length}
-use Rattle.model.specs.Limits.{recordSize}
-use Rattle.model.specs.Refusals.{Refusal, first}
-use Rattle.model.specs.Names.{cluesOf, tableCheck}
-use Rattle.model.specs.Store.{sizeCheck, soundCheck}
-use Rattle.model.proofs.Refusals.{first-none, first-rest}
-use Rattle.model.proofs.Sizes.{size-iff}
+use Rattle.labelling.specs.Limits.{recordSize}
+use Rattle.labelling.specs.Refusals.{Refusal, first}
+use Rattle.labelling.specs.Names.{cluesOf, tableCheck}
+use Rattle.storage.specs.Store.{sizeCheck, soundCheck}
+use Rattle.labelling.proofs.Refusals.{first-none, first-rest}
+use Rattle.storage.proofs.Sizes.{size-iff}
 use Rattle.soundness.specs.Rules.{storeCheck}
 
 -- checks that refuse do so with others behind them

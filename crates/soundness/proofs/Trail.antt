@@ -9,13 +9,13 @@ use native.Mathlib.Omega.{arith}
 use lib.ListN.{length, getD, take}
 use lib.Seq.{length-take-le}
 use lib.Dec.{T}
-use Rattle.model.specs.Basics.{_∈_, last}
-use Rattle.model.specs.Labels.{Label, before, shared, within, above}
-use Rattle.model.specs.Store.{Element, readElement, find}
-use Rattle.model.proofs.Tests.{decide}
-use Rattle.model.proofs.LabelOrder.{before-one-way, before-nonroot, above-last, extend-before, within-iff, within-self}
-use Rattle.model.proofs.Kinship.{shared-alike, shared-most}
-use Rattle.model.proofs.SoundStore.{find-mem}
+use Rattle.labelling.specs.Basics.{_∈_, last}
+use Rattle.labelling.specs.Labels.{Label, before, shared, within, above}
+use Rattle.storage.specs.Store.{Element, readElement, find}
+use Rattle.labelling.proofs.Tests.{decide}
+use Rattle.labelling.proofs.LabelOrder.{before-one-way, before-nonroot, above-last, extend-before, within-iff, within-self}
+use Rattle.labelling.proofs.Kinship.{shared-alike, shared-most}
+use Rattle.storage.proofs.SoundStore.{find-mem}
 use Rattle.labels.proofs.Order.{order-none}
 use Rattle.records.specs.Records.{recordAt}
 

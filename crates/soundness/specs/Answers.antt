@@ -1,8 +1,8 @@
--- What the answers of the code tell, by the definitions of `model`.
+-- What the answers of the code tell, by the definitions of `storage`.
 use mathlib.Core.Path.{_≡_}
 use mathlib.Core.Option.{Option, none, some}
 use Prim.Native.Nat.{ℕ}
-use Rattle.model.specs.Store as model
+use Rattle.storage.specs.Store as model
 use Rattle.soundness.specs.declared.Rule.{Rule}
 use Rattle.soundness.specs.declared.Rule.the-variants as rule
 use Rattle.soundness.specs.declared.Check.{Check}

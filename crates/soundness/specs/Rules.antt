@@ -6,12 +6,12 @@ use mathlib.Core.Path.{_≡_}
 use Prim.Native.Nat.{ℕ, zero, suc, _+_, _*_, _<_, _≤_}
 use lib.ListN.{length, getD}
 use lib.Dec.{ltb, leb, eqb}
-use Rattle.model.specs.Basics.{last}
-use Rattle.model.specs.Limits.{maxDepth, recordSize}
-use Rattle.model.specs.Refusals.{Refusal, first}
-use Rattle.model.specs.Names.{Clues, isName, cluesOf, tableCheck}
-use Rattle.model.specs.Labels.{before, shared, isComponent}
-use Rattle.model.specs.Store.{Element, Rule, readElement, test, laidOut, leads, closed, sizeCheck, soundCheck, orderRule, parentRule, nameRule, lastRule, nextRule}
+use Rattle.labelling.specs.Basics.{last}
+use Rattle.labelling.specs.Limits.{maxDepth, recordSize}
+use Rattle.labelling.specs.Refusals.{Refusal, first}
+use Rattle.labelling.specs.Names.{Clues, isName, cluesOf, tableCheck}
+use Rattle.labelling.specs.Labels.{before, shared, isComponent}
+use Rattle.storage.specs.Store.{Element, Rule, readElement, test, laidOut, leads, closed, sizeCheck, soundCheck, orderRule, parentRule, nameRule, lastRule, nextRule}
 use Rattle.records.specs.Records.{recordAt}
 
 -- a depth is at most 15, and 0 for record 0 only

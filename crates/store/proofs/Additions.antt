@@ -5,12 +5,12 @@ use mathlib.Core.Bool.{true}
 use mathlib.Core.List.{List, [], _∷_, _++_}
 use mathlib.Core.Option.{some}
 use lib.ListN.{length, getD, set, length-set}
-use Rattle.model.specs.Basics.{elim?}
-use Rattle.model.specs.Limits.{maxDepth, recordSize, nextWord}
-use Rattle.model.specs.Labels.{Label, labelOf, labelWords, isLabel}
-use Rattle.model.specs.Store.{elementWords, readElement, elements}
-use Rattle.model.specs.Updates.{spaceCheck}
-use Rattle.model.proofs.Sizes.{space-iff}
+use Rattle.labelling.specs.Basics.{elim?}
+use Rattle.labelling.specs.Limits.{maxDepth, recordSize, nextWord}
+use Rattle.labelling.specs.Labels.{Label, labelOf, labelWords, isLabel}
+use Rattle.storage.specs.Store.{elementWords, readElement, elements}
+use Rattle.storage.specs.Updates.{spaceCheck}
+use Rattle.storage.proofs.Sizes.{space-iff}
 use Rattle.refusals.specs.Answers.{verdictOf}
 use Rattle.refusals.specs.declared.Refusal.{Refusal as Shown}
 use Rattle.refusals.specs.declared.Verdict.{Verdict}

@@ -7,11 +7,11 @@ use native.Mathlib.Omega.{arith}
 use native.Mathlib.Numerals.{add-one}
 use lib.ListN.{length, getD, drop, set, replicate, length-append}
 use lib.Seq.{set-append-seam}
-use Rattle.model.specs.Basics.{over}
-use Rattle.model.specs.Limits.{maxDepth, labelSize}
-use Rattle.model.specs.Labels.{Label, labelOf, labelWords, isLabel}
-use Rattle.model.specs.Store.{elementWords}
-use Rattle.model.proofs.LabelWords.{isLabel-iff, labelWords-labelOf}
+use Rattle.labelling.specs.Basics.{over}
+use Rattle.labelling.specs.Limits.{maxDepth, labelSize}
+use Rattle.labelling.specs.Labels.{Label, labelOf, labelWords, isLabel}
+use Rattle.storage.specs.Store.{elementWords}
+use Rattle.labelling.proofs.LabelWords.{isLabel-iff, labelWords-labelOf}
 use Rattle.store.specs.Answers.{rootElement}
 
 module _ (ws : List ℕ) (good : isLabel ws ≡ true) where

@@ -7,13 +7,13 @@ use mathlib.Core.Option.{none, some}
 use native.Mathlib.Omega.{arith}
 use lib.ListN.{length}
 use lib.Dec.{ltb→lt, lt→ltb}
-use Rattle.model.specs.Basics.{elim?}
-use Rattle.model.specs.Refusals.{Refusal, refuse, first, noRecord, rootStays}
-use Rattle.model.specs.Names.{cluesOf}
-use Rattle.model.specs.Labels.{Label, labelOf}
-use Rattle.model.specs.Store.{elements, find}
-use Rattle.model.specs.Updates.{rootStaysCheck, foundCheck, deletionRefusal, delete}
-use Rattle.model.proofs.Refusals.{check-passed, check-failed, first-here, first-next}
+use Rattle.labelling.specs.Basics.{elim?}
+use Rattle.labelling.specs.Refusals.{Refusal, refuse, first, noRecord, rootStays}
+use Rattle.labelling.specs.Names.{cluesOf}
+use Rattle.labelling.specs.Labels.{Label, labelOf}
+use Rattle.storage.specs.Store.{elements, find}
+use Rattle.storage.specs.Updates.{rootStaysCheck, foundCheck, deletionRefusal, delete}
+use Rattle.labelling.proofs.Refusals.{check-passed, check-failed, first-here, first-next}
 use Rattle.refusals.specs.Answers.{verdictOf}
 use Rattle.refusals.specs.declared.Refusal.{Refusal as Shown}
 use Rattle.refusals.specs.declared.Verdict.{Verdict}

@@ -7,13 +7,13 @@ use mathlib.Core.Option.{some, none}
 use native.Mathlib.Omega.{arith}
 use lib.ListN.{length, take, drop, replicate, length-append, length-drop, length-replicate}
 use lib.Seq.{length-take-le, take-take}
-use Rattle.model.specs.Basics.{over}
-use Rattle.model.specs.Limits.{recordSize}
-use Rattle.model.specs.Names.{Clues}
-use Rattle.model.specs.Labels.{Label}
-use Rattle.model.specs.Store.{Element, storeWords, elements, soundCheck}
-use Rattle.model.specs.Updates.{without}
-use Rattle.model.proofs.Sizes.{length-elements-read}
+use Rattle.labelling.specs.Basics.{over}
+use Rattle.labelling.specs.Limits.{recordSize}
+use Rattle.labelling.specs.Names.{Clues}
+use Rattle.labelling.specs.Labels.{Label}
+use Rattle.storage.specs.Store.{Element, storeWords, elements, soundCheck}
+use Rattle.storage.specs.Updates.{without}
+use Rattle.storage.proofs.Sizes.{length-elements-read}
 use Rattle.moving.specs.Moves.{removed}
 use Rattle.lookup.specs.Places.{placeAt, passes, leading}
 use Rattle.lookup.proofs.Places.{searchable, place-leading, place-before-end, without-leading}

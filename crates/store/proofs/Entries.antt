@@ -7,15 +7,15 @@ use mathlib.Core.Option.{some, none}
 use native.Mathlib.Omega.{arith}
 use lib.ListN.{length, take, drop, set, length-append, length-drop, length-set, length-map}
 use lib.Seq.{length-take-le, take-take, take-set-lt, drop-set-lt}
-use Rattle.model.specs.Basics.{over}
-use Rattle.model.specs.Limits.{maxDepth, recordSize, nextWord}
-use Rattle.model.specs.Names.{Clues}
-use Rattle.model.specs.Labels.{Label}
-use Rattle.model.specs.Store.{Element, elementWords, storeWords, elements, elementAt, soundCheck}
-use Rattle.model.specs.Updates.{given, raised, placed, entered}
-use Rattle.model.proofs.Lists.{for-map}
-use Rattle.model.proofs.Sizes.{length-elements-read}
-use Rattle.model.proofs.Words.{length-elementWords}
+use Rattle.labelling.specs.Basics.{over}
+use Rattle.labelling.specs.Limits.{maxDepth, recordSize, nextWord}
+use Rattle.labelling.specs.Names.{Clues}
+use Rattle.labelling.specs.Labels.{Label}
+use Rattle.storage.specs.Store.{Element, elementWords, storeWords, elements, elementAt, soundCheck}
+use Rattle.storage.specs.Updates.{given, raised, placed, entered}
+use Rattle.labelling.proofs.Lists.{for-map}
+use Rattle.storage.proofs.Sizes.{length-elements-read}
+use Rattle.storage.proofs.Words.{length-elementWords}
 use Rattle.moving.specs.Moves.{inserted}
 use Rattle.lookup.specs.Places.{placeAt, passes, leading}
 use Rattle.lookup.proofs.Places.{searchable, placed-leading}

@@ -4,16 +4,16 @@ use mathlib.Core.Path.{_≡_, refl, sym, ap, ap₂, _∙_}
 use mathlib.Core.List.{List, [], _∷_, _++_}
 use mathlib.Core.Option.{Option, none, some}
 use lib.ListN.{length, replicate}
-use Rattle.model.specs.Basics.{elim?, over}
-use Rattle.model.specs.Limits.{maxDepth, labelSize}
-use Rattle.model.specs.Refusals.{Refusal, refuse, first, noRecord}
-use Rattle.model.specs.Names.{cluesOf}
-use Rattle.model.specs.Labels.{Label, labelOf, labelWords}
-use Rattle.model.specs.Store.{Element, storeWords, readElement, elements, find, elementAt, soundCheck}
-use Rattle.model.specs.Updates as model
-use Rattle.model.proofs.Refusals.{first-here, first-next}
-use Rattle.model.proofs.Parents.{parent-nine}
-use Rattle.model.proofs.Sizes.{space-iff}
+use Rattle.labelling.specs.Basics.{elim?, over}
+use Rattle.labelling.specs.Limits.{maxDepth, labelSize}
+use Rattle.labelling.specs.Refusals.{Refusal, refuse, first, noRecord}
+use Rattle.labelling.specs.Names.{cluesOf}
+use Rattle.labelling.specs.Labels.{Label, labelOf, labelWords}
+use Rattle.storage.specs.Store.{Element, storeWords, readElement, elements, find, elementAt, soundCheck}
+use Rattle.storage.specs.Updates as model
+use Rattle.labelling.proofs.Refusals.{first-here, first-next}
+use Rattle.storage.proofs.Parents.{parent-nine}
+use Rattle.storage.proofs.Sizes.{space-iff}
 use Rattle.refusals.specs.Answers.{verdictOf}
 use Rattle.refusals.specs.declared.Refusal.{Refusal as Shown}
 use Rattle.refusals.specs.declared.Verdict.{Verdict}

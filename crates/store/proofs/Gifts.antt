@@ -10,16 +10,16 @@ use native.Mathlib.Decide.{decLt}
 use lib.ListN.{length, getD}
 use lib.Dec.{T, leb, leb→le, le→leb}
 use borrow.Author.Tests.{lt-ltb}
-use Rattle.model.specs.Basics.{_∈_, elim?}
-use Rattle.model.specs.Limits.{maxComponent, maxDepth, recordSize, nameWord, nextWord}
-use Rattle.model.specs.Refusals.{Refusal, notInClue, tooDeep, noNumber}
-use Rattle.model.specs.Names.{Clues, cluesOf, placeIn}
-use Rattle.model.specs.Labels.{Label}
-use Rattle.model.specs.Store.{Element, readElement}
-use Rattle.model.specs.Updates as model
-use Rattle.model.proofs.Lists.{member-at}
-use Rattle.model.proofs.NameTables.{placed-at, placeIn-none}
-use Rattle.model.proofs.Parents.{parent-ten, parent-eleven, parent-twelve, parent-passed, ParentFacts, parentCheck-iff}
+use Rattle.labelling.specs.Basics.{_∈_, elim?}
+use Rattle.labelling.specs.Limits.{maxComponent, maxDepth, recordSize, nameWord, nextWord}
+use Rattle.labelling.specs.Refusals.{Refusal, notInClue, tooDeep, noNumber}
+use Rattle.labelling.specs.Names.{Clues, cluesOf, placeIn}
+use Rattle.labelling.specs.Labels.{Label}
+use Rattle.storage.specs.Store.{Element, readElement}
+use Rattle.storage.specs.Updates as model
+use Rattle.labelling.proofs.Lists.{member-at}
+use Rattle.labelling.proofs.NameTables.{placed-at, placeIn-none}
+use Rattle.storage.proofs.Parents.{parent-ten, parent-eleven, parent-twelve, parent-passed, ParentFacts, parentCheck-iff}
 use Rattle.refusals.specs.Answers.{refusalOf, verdictOf}
 use Rattle.refusals.specs.declared.Refusal.{Refusal as Shown}
 use Rattle.refusals.specs.declared.Verdict.the-variants as verdict

@@ -7,17 +7,17 @@ use mathlib.Core.Option.{some, none}
 use native.Mathlib.Omega.{arith}
 use lib.ListN.{length, getD, take, drop}
 use lib.Seq.{take-add, drop-at, length-take-le}
-use Rattle.model.specs.Basics.{elim?}
-use Rattle.model.specs.Limits.{maxDepth, recordSize}
-use Rattle.model.specs.Names.{Clues}
-use Rattle.model.specs.Labels.{Label}
-use Rattle.model.specs.Store.{Element, storeWords, readElement, records, elements, find, elementAt, soundCheck}
-use Rattle.model.proofs.Lists.{nowhere}
-use Rattle.model.proofs.Sizes.{length-elements-read}
-use Rattle.model.proofs.Faults.{sound-check}
-use Rattle.model.proofs.Words.{Fit}
-use Rattle.model.proofs.Relaid.{relaid}
-use Rattle.model.proofs.SoundStore.{sound-elements}
+use Rattle.labelling.specs.Basics.{elim?}
+use Rattle.labelling.specs.Limits.{maxDepth, recordSize}
+use Rattle.labelling.specs.Names.{Clues}
+use Rattle.labelling.specs.Labels.{Label}
+use Rattle.storage.specs.Store.{Element, storeWords, readElement, records, elements, find, elementAt, soundCheck}
+use Rattle.labelling.proofs.Lists.{nowhere}
+use Rattle.storage.proofs.Sizes.{length-elements-read}
+use Rattle.storage.proofs.Faults.{sound-check}
+use Rattle.storage.proofs.Words.{Fit}
+use Rattle.storage.proofs.Relaid.{relaid}
+use Rattle.storage.proofs.SoundStore.{sound-elements}
 use Rattle.records.specs.Records.{recordAt}
 use Rattle.records.proofs.Elements.{element-at}
 use Rattle.lookup.specs.Places.{placeAt, passes, leading, Searchable}

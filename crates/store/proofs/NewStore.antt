@@ -7,14 +7,14 @@ use native.Mathlib.Omega.{arith}
 use lib.ListN.{length}
 use lib.Dec.{T}
 use borrow.Author.Tests.{le-leb, lt-leb, not-true, not-false}
-use Rattle.model.specs.Basics.{elim?, over}
-use Rattle.model.specs.Limits.{maxName, recordSize}
-use Rattle.model.specs.Refusals.{refuse, check, first, storeSize, badRoot}
-use Rattle.model.specs.Names.{isName, rootCheck}
-use Rattle.model.specs.Labels.{labelWords}
-use Rattle.model.specs.Store.{elementWords, isSlice}
-use Rattle.model.specs.Updates.{newStoreRefusal, newStore}
-use Rattle.model.proofs.Sizes.{slice-iff}
+use Rattle.labelling.specs.Basics.{elim?, over}
+use Rattle.labelling.specs.Limits.{maxName, recordSize}
+use Rattle.labelling.specs.Refusals.{refuse, check, first, storeSize, badRoot}
+use Rattle.labelling.specs.Names.{isName, rootCheck}
+use Rattle.labelling.specs.Labels.{labelWords}
+use Rattle.storage.specs.Store.{elementWords, isSlice}
+use Rattle.storage.specs.Updates.{newStoreRefusal, newStore}
+use Rattle.storage.proofs.Sizes.{slice-iff}
 use Rattle.refusals.specs.Answers.{verdictOf}
 use Rattle.refusals.specs.declared.Verdict.{Verdict}
 use Rattle.refusals.specs.declared.Verdict.the-variants as verdict

@@ -9,17 +9,17 @@ use native.Mathlib.Nat.{zero-add, suc-add}
 use lib.ListN.{length, set}
 use lib.Seq.{set-append-left}
 use lib.Dec.{T}
-use Rattle.model.specs.Basics.{_∈_, joined, Ascending, one-more}
-use Rattle.model.specs.Limits.{maxDepth, recordSize, nextWord}
-use Rattle.model.specs.Labels.{Label, before, same, labelWords}
-use Rattle.model.specs.Store.{Element, elementWords, storeWords}
-use Rattle.model.specs.Updates.{raised}
-use Rattle.model.proofs.Tests.{is-true, is-false, Tells, passes as told, fails as untold}
-use Rattle.model.proofs.Lists.{here, there}
-use Rattle.model.proofs.LabelOrder.{before-order, same-alike, same?}
-use Rattle.model.proofs.LabelWords.{length-labelWords}
-use Rattle.model.proofs.Words.{Fit, length-elementWords}
-use Rattle.model.proofs.SoundStore.{ahead}
+use Rattle.labelling.specs.Basics.{_∈_, joined, Ascending, one-more}
+use Rattle.labelling.specs.Limits.{maxDepth, recordSize, nextWord}
+use Rattle.labelling.specs.Labels.{Label, before, same, labelWords}
+use Rattle.storage.specs.Store.{Element, elementWords, storeWords}
+use Rattle.storage.specs.Updates.{raised}
+use Rattle.labelling.proofs.Tests.{is-true, is-false, Tells, passes as told, fails as untold}
+use Rattle.labelling.proofs.Lists.{here, there}
+use Rattle.labelling.proofs.LabelOrder.{before-order, same-alike, same?}
+use Rattle.labelling.proofs.LabelWords.{length-labelWords}
+use Rattle.storage.proofs.Words.{Fit, length-elementWords}
+use Rattle.storage.proofs.SoundStore.{ahead}
 use Rattle.lookup.specs.Places.{placeAt, passes, leading}
 
 -- a place behind a list

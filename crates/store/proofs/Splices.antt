@@ -5,10 +5,10 @@ use mathlib.Core.List.{List, [], _∷_, _++_, append-assoc, Memᴰ·append-left}
 use native.Mathlib.Omega.{arith}
 use lib.ListN.{length, take, drop, take-append-drop}
 use lib.Seq.{take-at, drop-at, length-take-le}
-use Rattle.model.specs.Basics.{_∈_, joined}
-use Rattle.model.specs.Limits.{recordSize}
-use Rattle.model.specs.Store.{Element, elementWords, storeWords}
-use Rattle.model.proofs.Words.{Fit, length-storeWords}
+use Rattle.labelling.specs.Basics.{_∈_, joined}
+use Rattle.labelling.specs.Limits.{recordSize}
+use Rattle.storage.specs.Store.{Element, elementWords, storeWords}
+use Rattle.storage.proofs.Words.{Fit, length-storeWords}
 
 -- the words of elements and of others behind them
 words-append : (es fs : List Element) → storeWords (es ++ fs) ≡ storeWords es ++ storeWords fs

@@ -1,16 +1,16 @@
--- What the answers of the code tell, by the definitions of `model`.
+-- What the answers of the code tell, by the definitions of `storage`.
 use Prim.Native.Nat.{ℕ, _+_, _-_, _*_}
 use mathlib.Core.Bool.{true}
 use mathlib.Core.List.{List, [], _∷_, _++_}
 use mathlib.Core.Option.{Option, none, some}
 use lib.ListN.{length, set, replicate}
-use Rattle.model.specs.Basics.{elim?}
-use Rattle.model.specs.Limits.{labelSize, recordSize, nextWord}
-use Rattle.model.specs.Names.{Clues}
-use Rattle.model.specs.Labels.{Label, labelWords, labelCheck}
-use Rattle.model.specs.Refusals.{Refusal, first}
-use Rattle.model.specs.Store.{Element, elementWords, readElement, elements}
-use Rattle.model.specs.Updates as model
+use Rattle.labelling.specs.Basics.{elim?}
+use Rattle.labelling.specs.Limits.{labelSize, recordSize, nextWord}
+use Rattle.labelling.specs.Names.{Clues}
+use Rattle.labelling.specs.Labels.{Label, labelWords, labelCheck}
+use Rattle.labelling.specs.Refusals.{Refusal, first}
+use Rattle.storage.specs.Store.{Element, elementWords, readElement, elements}
+use Rattle.storage.specs.Updates as model
 use Rattle.refusals.specs.Answers.{refusalOf, verdictOf}
 use Rattle.refusals.specs.declared.Verdict.{Verdict}
 use Rattle.records.specs.Records.{recordAt}

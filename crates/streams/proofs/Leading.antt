@@ -8,10 +8,10 @@ use native.Mathlib.Omega.{arith}
 use native.Mathlib.Numerals.{add-one}
 use lib.ListN.{length, getD, take, drop, set, take-append-drop}
 use lib.Seq.{take-all, take-suc, take-suc-set, length-take-le}
-use Rattle.model.specs.Basics.{elim?, last}
-use Rattle.model.specs.Names.{Clues, led}
-use Rattle.model.specs.Labels.{Label, path, stuck, decode}
-use Rattle.model.proofs.Decode.{further, decode-snoc, decode-child, stuck-more, name-end}
+use Rattle.labelling.specs.Basics.{elim?, last}
+use Rattle.labelling.specs.Names.{Clues, led}
+use Rattle.labelling.specs.Labels.{Label, path, stuck, decode}
+use Rattle.labelling.proofs.Decode.{further, decode-snoc, decode-child, stuck-more, name-end}
 use Rattle.names.specs.Answers.{childOf}
 use Rattle.names.specs.declared.Child.{Child}
 use Rattle.names.specs.declared.Child.the-variants as child

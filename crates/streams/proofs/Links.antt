@@ -7,13 +7,13 @@ use native.Mathlib.Omega.{arith}
 use lib.ListN.{length, getD, take}
 use lib.Dec.{T, eqb, eqb·suc-zero}
 use borrow.Author.Tests.{not-true, not-false}
-use Rattle.model.specs.Basics.{elim?}
-use Rattle.model.specs.Limits.{labelSize}
-use Rattle.model.specs.Names.{Clues}
-use Rattle.model.specs.Labels.{Label, before, shared, Decoded, path, stuck, decode, endOf, nameAt, labelOf, isLabel}
-use Rattle.model.specs.Matches.{asks, fits}
-use Rattle.model.specs.Matching.{inStream}
-use Rattle.model.proofs.Kinship.{shared-alike, shared-low, shared-comm}
+use Rattle.labelling.specs.Basics.{elim?}
+use Rattle.labelling.specs.Limits.{labelSize}
+use Rattle.labelling.specs.Names.{Clues}
+use Rattle.labelling.specs.Labels.{Label, before, shared, Decoded, path, stuck, decode, endOf, nameAt, labelOf, isLabel}
+use Rattle.patterns.specs.Matches.{asks, fits}
+use Rattle.patterns.specs.Matching.{inStream}
+use Rattle.labelling.proofs.Kinship.{shared-alike, shared-low, shared-comm}
 use Rattle.streams.specs.Streams.{Along, leadsOn, wordsAt, labelAt, previousAt, labelBefore, standsAt}
 use Rattle.streams.specs.Answers.{linkOf}
 use Rattle.streams.specs.declared.Link.the-variants as link

@@ -12,15 +12,15 @@ use native.Mathlib.Numerals.{add-one}
 use lib.ListN.{length, getD, take, drop, set, replicate}
 use lib.Seq.{paste, take-all, take-suc, take-suc-set, drop-drop}
 use lib.Dec.{T}
-use Rattle.model.specs.Basics.{elim?}
-use Rattle.model.specs.Limits.{labelSize, maxDepth}
-use Rattle.model.specs.Refusals.{refuse, badStream}
-use Rattle.model.specs.Names.{Clues}
-use Rattle.model.specs.Labels.{shared, decode, isLabel}
-use Rattle.model.specs.Matching.{labelsIn, streamCheck}
-use Rattle.model.proofs.Tests.{is-true}
-use Rattle.model.proofs.LabelWords.{labelOf-good}
-use Rattle.model.proofs.StreamChecks.{inStream-iff, streamCheck-next, streamCheck-now}
+use Rattle.labelling.specs.Basics.{elim?}
+use Rattle.labelling.specs.Limits.{labelSize, maxDepth}
+use Rattle.labelling.specs.Refusals.{refuse, badStream}
+use Rattle.labelling.specs.Names.{Clues}
+use Rattle.labelling.specs.Labels.{shared, decode, isLabel}
+use Rattle.patterns.specs.Matching.{labelsIn, streamCheck}
+use Rattle.labelling.proofs.Tests.{is-true}
+use Rattle.labelling.proofs.LabelWords.{labelOf-good}
+use Rattle.patterns.proofs.StreamChecks.{inStream-iff, streamCheck-next, streamCheck-now}
 use Rattle.refusals.specs.Answers.{verdictOf}
 use Rattle.refusals.specs.declared.Verdict.{Verdict}
 use Rattle.refusals.specs.declared.Verdict.the-variants as verdict
@@ -30,7 +30,7 @@ use Rattle.streams.specs.Answers.{linkOf}
 use Rattle.streams.specs.declared.Link.{Link}
 use Rattle.streams.specs.declared.Link.the-variants as link
 use Rattle.streams.proofs.Streams.{along-root, length-shares, shares-at}
-use Rattle.model.proofs.Buffers.{length-labelsIn}
+use Rattle.patterns.proofs.Buffers.{length-labelsIn}
 use Rattle.streams.proofs.Words.{labels-at, labels-before}
 use Rattle.streams.proofs.Links.{share-in}
 use Rattle.streams.proofs.Rows.{pasted-here, pasted-before}

@@ -7,11 +7,11 @@ use native.Mathlib.Omega.{arith}
 use lib.ListN.{getD, take, drop}
 use lib.Dec.{eqb}
 use borrow.Author.Tests.{eq-eqb, ne-eqb}
-use Rattle.model.specs.Basics.{elim?}
-use Rattle.model.specs.Limits.{labelSize}
-use Rattle.model.specs.Labels.{Label, before, labelOf, isLabel}
-use Rattle.model.specs.Matching.{labelsIn}
-use Rattle.model.proofs.Buffers.{labelsIn-words}
+use Rattle.labelling.specs.Basics.{elim?}
+use Rattle.labelling.specs.Limits.{labelSize}
+use Rattle.labelling.specs.Labels.{Label, before, labelOf, isLabel}
+use Rattle.patterns.specs.Matching.{labelsIn}
+use Rattle.patterns.proofs.Buffers.{labelsIn-words}
 use Rattle.streams.specs.Streams.{wordsAt, labelAt, previousAt, labelBefore, Stood}
 
 -- the words of a label are lent as a part

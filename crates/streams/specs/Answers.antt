@@ -1,4 +1,4 @@
--- What the answers of the code tell, by the definitions of `model`.
+-- What the answers of the code tell, by the definitions of `patterns`.
 use mathlib.Core.Bool.{Bool, true, false}
 use Prim.Native.Nat.{ℕ}
 use Rattle.streams.specs.declared.Link.{Link}

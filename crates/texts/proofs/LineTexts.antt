@@ -7,12 +7,12 @@ use native.Mathlib.Nat.{add-zero}
 use native.Mathlib.Omega.{arith}
 use lib.ListN.{length, getD, take, drop, length-drop}
 use lib.Seq.{getD-drop, drop-drop}
-use Rattle.model.specs.Limits.{maxDepth, labelSize}
-use Rattle.model.specs.Labels.{labelOf}
-use Rattle.model.specs.Matching.{labelsIn}
+use Rattle.labelling.specs.Limits.{maxDepth, labelSize}
+use Rattle.labelling.specs.Labels.{labelOf}
+use Rattle.patterns.specs.Matching.{labelsIn}
 use Rattle.model.specs.Printing.{text, labelText, matchLine}
-use Rattle.model.proofs.LabelWords.{labelOf-take}
-use Rattle.model.proofs.Scans.{tail-is}
+use Rattle.labelling.proofs.LabelWords.{labelOf-take}
+use Rattle.labelling.proofs.Scans.{tail-is}
 use Rattle.words.specs.Writing.{written}
 use Rattle.texts.specs.Texts.{Depths}
 use Rattle.texts.proofs.Texts.{Pending, pending-all, pending-from, pending-on, pending-none, pending-room, pending-more}

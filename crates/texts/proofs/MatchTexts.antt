@@ -8,11 +8,11 @@ use native.Mathlib.Numerals.{add-one}
 use native.Mathlib.Omega.{arith}
 use lib.ListN.{length, drop, length-drop}
 use lib.Seq.{drop-drop}
-use Rattle.model.specs.Basics.{joined, over}
-use Rattle.model.specs.Limits.{labelSize}
-use Rattle.model.specs.Matching.{labelsIn}
+use Rattle.labelling.specs.Basics.{joined, over}
+use Rattle.labelling.specs.Limits.{labelSize}
+use Rattle.patterns.specs.Matching.{labelsIn}
 use Rattle.model.specs.Printing.{matchLine, matchesText}
-use Rattle.model.proofs.Scans.{tail-is}
+use Rattle.labelling.proofs.Scans.{tail-is}
 use Rattle.words.specs.Writing.{written}
 use Rattle.texts.specs.Texts.{numberLine, matchesIn, Depths, labelRoom, countRoom}
 use Rattle.words.proofs.Writing.{written-over}

@@ -7,16 +7,16 @@ use native.Mathlib.Nat.{mul-zero, mul-suc}
 use native.Mathlib.Omega.{arith}
 use lib.ListN.{length, getD, take, drop, length-append, length-map, length-take}
 use lib.Seq.{getD-take, getD-drop}
-use Rattle.model.specs.Basics.{_∈_, joined}
-use Rattle.model.specs.Limits.{maxDepth, labelSize}
-use Rattle.model.specs.Labels.{Label, labelOf}
-use Rattle.model.specs.Matches.{Match}
-use Rattle.model.specs.Matching.{labelsIn}
+use Rattle.labelling.specs.Basics.{_∈_, joined}
+use Rattle.labelling.specs.Limits.{maxDepth, labelSize}
+use Rattle.labelling.specs.Labels.{Label, labelOf}
+use Rattle.patterns.specs.Matches.{Match}
+use Rattle.patterns.specs.Matching.{labelsIn}
 use Rattle.model.specs.Printing.{text, decimal, joinedBy, labelText, matchLine, matchesText}
-use Rattle.model.proofs.Lists.{here, there, nowhere, for-cons, for-map, member-at}
-use Rattle.model.proofs.LabelWords.{labelOf-take}
+use Rattle.labelling.proofs.Lists.{here, there, nowhere, for-cons, for-map, member-at}
+use Rattle.labelling.proofs.LabelWords.{labelOf-take}
 use Rattle.texts.specs.Texts.{numberLine, matchesIn, Depths, labelRoom, countRoom}
-use Rattle.model.proofs.Buffers.{length-labelsIn}
+use Rattle.patterns.proofs.Buffers.{length-labelsIn}
 use Rattle.texts.proofs.Words.{length-matchesIn, depths-drop}
 use Rattle.texts.proofs.Digits.{decimal-short}
 use Rattle.texts.proofs.Joined.{tailed, joined-tailed}

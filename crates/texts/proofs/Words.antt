@@ -9,14 +9,14 @@ use native.Mathlib.Decide.{decLt}
 use native.Mathlib.Omega.{arith}
 use lib.ListN.{length, getD, drop, length-append}
 use lib.Seq.{getD-drop, drop-at}
-use Rattle.model.specs.Basics.{_∈_, joined}
-use Rattle.model.specs.Limits.{maxDepth, labelSize}
-use Rattle.model.specs.Labels.{Label, labelWords}
-use Rattle.model.specs.Matches.{Match, labelsWords, matchWords}
-use Rattle.model.proofs.Lists.{here, there}
-use Rattle.model.proofs.LabelWords.{length-labelWords}
-use Rattle.model.proofs.MatchWords.{length-labelsWords, length-matchWords}
-use Rattle.model.proofs.StreamWords.{labelsIn-labelsWords}
+use Rattle.labelling.specs.Basics.{_∈_, joined}
+use Rattle.labelling.specs.Limits.{maxDepth, labelSize}
+use Rattle.labelling.specs.Labels.{Label, labelWords}
+use Rattle.patterns.specs.Matches.{Match, labelsWords, matchWords}
+use Rattle.labelling.proofs.Lists.{here, there}
+use Rattle.labelling.proofs.LabelWords.{length-labelWords}
+use Rattle.patterns.proofs.MatchWords.{length-labelsWords, length-matchWords}
+use Rattle.storage.proofs.StreamWords.{labelsIn-labelsWords}
 use Rattle.texts.specs.Texts.{matchesIn, Depths}
 
 -- there are as many matches as are read

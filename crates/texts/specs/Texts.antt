@@ -2,9 +2,9 @@
 use mathlib.Core.List.{List, [], _∷_, _++_}
 use Prim.Native.Nat.{ℕ, zero, suc, _+_, _*_, _<_, _≤_}
 use lib.ListN.{getD, drop}
-use Rattle.model.specs.Limits.{maxDepth, labelSize}
-use Rattle.model.specs.Matches.{Match}
-use Rattle.model.specs.Matching.{labelsIn}
+use Rattle.labelling.specs.Limits.{maxDepth, labelSize}
+use Rattle.patterns.specs.Matches.{Match}
+use Rattle.patterns.specs.Matching.{labelsIn}
 use Rattle.model.specs.Printing.{text, decimal}
 
 -- a line with a number

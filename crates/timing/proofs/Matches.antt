@@ -6,10 +6,10 @@ use mathlib.Core.List.{List}
 use mathlib.Core.Option.{none}
 use lib.Dec.{eqb}
 use lib.ListN.{length}
-use Rattle.model.specs.Cutting as model
-use Rattle.model.specs.Limits.{tableSize}
-use Rattle.model.specs.Matching.{matchCall}
-use Rattle.model.proofs.Tests.{is-true, is-false, eqb-alike}
+use Rattle.labelling.specs.Outputs as outputs
+use Rattle.labelling.specs.Limits.{tableSize}
+use Rattle.patterns.specs.Matching.{matchCall}
+use Rattle.labelling.proofs.Tests.{is-true, is-false, eqb-alike}
 use Rattle.refusals.specs.Answers.{Filled, filled, listingOf}
 use Rattle.refusals.specs.declared.Listing.{Listing}
 use Rattle.name_files.specs.Rows.{rowsIn}
@@ -25,11 +25,11 @@ module _ (table : List ℕ) (root : ℕ) (twig counts buffer out : List ℕ) whe
 
     -- list nothing
     pub unmatched-count : 0 ≡ matchIn table root twig counts buffer out .count
-    unmatched-count = sym (ap (λ (a : model.Listing). a .count) no-table)
+    unmatched-count = sym (ap (λ (a : outputs.Listing). a .count) no-table)
 
     -- and leave the output as it was
     pub unmatched-words : out ≡ matchIn table root twig counts buffer out .output
-    unmatched-words = sym (ap (λ (a : model.Listing). a .output) no-table)
+    unmatched-words = sym (ap (λ (a : outputs.Listing). a .output) no-table)
 
   module _ (size : length table ≡ tableSize * tableSize) {rows : List (List ℕ)} (read : rows ≡ rowsIn table) {r : Listing} {left : List ℕ}
       (e : filled r left ≡ listingOf (matchCall rows root twig counts buffer out)) where

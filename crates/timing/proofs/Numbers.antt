@@ -4,8 +4,8 @@ use mathlib.Core.Path.{_≡_, sym, ap, _∙_}
 use mathlib.Core.List.{List}
 use mathlib.Core.Option.{Option, none, some}
 use native.Mathlib.Omega.{arith}
-use Rattle.model.specs.Basics.{elim?}
-use Rattle.model.specs.Refusals as model
+use Rattle.labelling.specs.Basics.{elim?}
+use Rattle.labelling.specs.Refusals as model
 use Rattle.refusals.specs.Answers.{verdictOf, refusalOf}
 use Rattle.refusals.specs.declared.Refusal.{Refusal}
 use Rattle.refusals.specs.declared.Verdict.{Verdict}

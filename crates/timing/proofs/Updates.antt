@@ -2,7 +2,7 @@
 use Prim.Native.Nat.{ℕ}
 use mathlib.Core.Path.{_≡_, ap, _∙_}
 use mathlib.Core.List.{List}
-use Rattle.model.specs.Updates as model
+use Rattle.storage.specs.Updates as model
 use Rattle.store.specs.Answers.{Changed, changed, changeOf, Entered, entered, entryOf}
 use Rattle.store.specs.declared.Change.{Change}
 use Rattle.store.specs.declared.Entry.{Entry}

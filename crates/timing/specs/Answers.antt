@@ -1,15 +1,15 @@
--- What the answers of the code tell, by the definitions of `model`.
+-- What the answers of the code tell, by the definitions of `storage`.
 use mathlib.Core.Bool.{cond}
 use mathlib.Core.List.{List}
 use mathlib.Core.Option.{Option, none}
 use Prim.Native.Nat.{ℕ, _*_}
 use lib.Dec.{eqb}
 use lib.ListN.{length}
-use Rattle.model.specs.Basics.{elim?}
-use Rattle.model.specs.Cutting.{Listing}
-use Rattle.model.specs.Limits.{tableSize}
-use Rattle.model.specs.Matching.{matchCall}
-use Rattle.model.specs.Refusals.{Refusal}
+use Rattle.labelling.specs.Basics.{elim?}
+use Rattle.labelling.specs.Outputs.{Listing}
+use Rattle.labelling.specs.Limits.{tableSize}
+use Rattle.patterns.specs.Matching.{matchCall}
+use Rattle.labelling.specs.Refusals.{Refusal}
 use Rattle.name_files.specs.Rows.{rowsIn}
 
 -- the number of a refusal, 0 where there is none

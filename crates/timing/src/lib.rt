@@ -8,8 +8,8 @@ use soundness::check_store;
 use store::delete;
 use store::enter;
 ghost use mathlib.Core.Path.{_≡_};
-ghost use Rattle.model.specs.Bench.{benchTable};
-ghost use Rattle.model.specs.Updates as model;
+ghost use Rattle.labelling.specs.Examples.{benchTable};
+ghost use Rattle.storage.specs.Updates as model;
 ghost use Rattle.soundness.specs.Rules.{storeCheck};
 ghost use Rattle.timing.specs.Answers.{numberOf, matchIn};
 

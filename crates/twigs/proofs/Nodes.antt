@@ -7,9 +7,9 @@ use mathlib.Core.Option.{none}
 use native.Mathlib.Nat.{add-zero}
 use native.Mathlib.Omega.{arith}
 use lib.ListN.{length, getD}
-use Rattle.model.specs.Limits.{nodeSize}
-use Rattle.model.specs.Twigs.{Node, childEdge, descendantEdge, nodeAt, readTwig, twigCheck}
-use Rattle.model.proofs.TwigBytes.{length-readTwig, readTwig-at, twigCheck-iff, accepted-twig}
+use Rattle.labelling.specs.Limits.{nodeSize}
+use Rattle.patterns.specs.Twigs.{Node, childEdge, descendantEdge, nodeAt, readTwig, twigCheck}
+use Rattle.patterns.proofs.TwigBytes.{length-readTwig, readTwig-at, twigCheck-iff, accepted-twig}
 use Rattle.twigs.specs.Answers.{nodeOf}
 
 -- a twig has a record for every four bytes

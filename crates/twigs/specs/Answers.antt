@@ -1,11 +1,11 @@
--- What the answers of the code tell, by the definitions of `model`.
+-- What the answers of the code tell, by the definitions of `patterns`.
 use mathlib.Core.List.{List}
 use mathlib.Core.Option.{Option}
 use Prim.Native.Nat.{ℕ, _+_, _*_}
 use lib.ListN.{getD}
-use Rattle.model.specs.Limits.{nodeSize}
-use Rattle.model.specs.Refusals.{Refusal}
-use Rattle.model.specs.Twigs as model
+use Rattle.labelling.specs.Limits.{nodeSize}
+use Rattle.labelling.specs.Refusals.{Refusal}
+use Rattle.patterns.specs.Twigs as model
 use Rattle.twigs.specs.declared.Node.{Node}
 
 -- a record of a twig, as data

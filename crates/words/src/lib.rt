@@ -2,7 +2,7 @@
 ghost use mathlib.Core.Path.{_≡_};
 ghost use Prim.Native.Nat.{_≤_};
 ghost use lib.ListN.{length};
-ghost use Rattle.model.specs.Basics.{over};
+ghost use Rattle.labelling.specs.Basics.{over};
 
 // Words written over the first of others.
 pub fn overwrite(words: &mut [u16], from: &[u16])

@@ -4,8 +4,8 @@ use mathlib.Core.Logic.{⊎-elim}
 use mathlib.Core.Path.{_≡_}
 use borrow.Author.Needs.{needs}
 use lib.ListN.{length}
-use Rattle.model.specs.Cutting.{stream}
-use Rattle.model.specs.Store.{elements}
+use Rattle.storage.specs.Cutting.{stream}
+use Rattle.storage.specs.Store.{elements}
 use Rattle.cutting.proofs.Streams.{streamFrom, count-end, count-taken, count-left}
 use Rattle.cutting.proofs.stream_len.Statement.{statement}
 use Rattle.cutting.proofs.stream_len.Tie as tie

@@ -4,10 +4,10 @@ use mathlib.Core.Logic.{⊎-elim}
 use mathlib.Core.Path.{_≡_}
 use borrow.Author.Needs.{needs}
 use lib.ListN.{length}
-use Rattle.model.specs.Basics.{over}
-use Rattle.model.specs.Matches.{labelsWords}
-use Rattle.model.specs.Store.{elements}
-use Rattle.model.specs.Cutting.{stream}
+use Rattle.labelling.specs.Basics.{over}
+use Rattle.patterns.specs.Matches.{labelsWords}
+use Rattle.storage.specs.Store.{elements}
+use Rattle.storage.specs.Cutting.{stream}
 use Rattle.cutting.proofs.Streams.{streamFrom, count-taken, count-left}
 use Rattle.cutting.proofs.Outputs.{written, written-from}
 use Rattle.cutting.proofs.Writing.{write-room, write-taken, write-left, write-end}

@@ -4,9 +4,9 @@ use borrow.Author.Tests.{eq-eqb, ne-eqb}
 use Prim.Native.Nat.{_≤_, _-_}
 use mathlib.Core.Path.{_≡_}
 use lib.ListN.{length, drop}
-use Rattle.model.specs.Basics.{all}
+use Rattle.labelling.specs.Basics.{all}
 use Rattle.labels.specs.Answers.{isZero}
-use Rattle.model.proofs.Scans.{all-end, all-stop, all-on}
+use Rattle.labelling.proofs.Scans.{all-end, all-stop, all-on}
 use Rattle.labels.proofs.all_zero.Statement.{statement}
 use Rattle.labels.proofs.all_zero.Tie as tie
 

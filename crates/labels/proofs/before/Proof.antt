@@ -3,7 +3,7 @@ use borrow.Author.Needs.{needs}
 use Prim.Native.Nat.{_≤_, _-_}
 use mathlib.Core.Path.{_≡_}
 use lib.ListN.{length, drop}
-use Rattle.model.specs.Labels.{before}
+use Rattle.labelling.specs.Labels.{before}
 use Rattle.labels.proofs.Steps.{before-end, before-prefix, before-less, before-greater, before-on}
 use Rattle.labels.proofs.before.Statement.{statement}
 use Rattle.labels.proofs.before.Tie as tie

@@ -3,7 +3,7 @@ use borrow.Author.Needs.{needs}
 use Prim.Native.Nat.{_≤_, _+_, _-_}
 use mathlib.Core.Path.{_≡_}
 use lib.ListN.{length, drop}
-use Rattle.model.specs.Labels.{shared}
+use Rattle.labelling.specs.Labels.{shared}
 use Rattle.labels.proofs.Steps.{shared-end, shared-short, shared-differ, shared-on}
 use Rattle.labels.proofs.shared.Statement.{statement}
 use Rattle.labels.proofs.shared.Tie as tie

@@ -4,7 +4,7 @@ use Prim.Native.Nat.{_≤_, _-_}
 use mathlib.Core.Path.{_≡_}
 use borrow.Author.Needs.{needs}
 use lib.ListN.{length, replicate}
-use Rattle.model.specs.Limits.{tableSize, filler}
+use Rattle.labelling.specs.Limits.{tableSize, filler}
 use Rattle.name_files.specs.Rows.{rowsIn}
 use Rattle.name_files.proofs.Rows.{Copied, row-long, rows-more, rows-all}
 use Rattle.name_files.proofs.table_of.Statement.{statement}

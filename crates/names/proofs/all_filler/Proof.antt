@@ -1,20 +1,21 @@
--- `names::all_filler` meets its contract: what is left of the test is the test of what is left.
+-- `names::all_filler` meets its contract: the numbers before the index are filling if the least of them is.
 use Prim.Native.Nat.{_≤_, _-_}
-use mathlib.Core.Path.{_≡_}
+use mathlib.Core.Logic.{⊎-elim}
 use borrow.Author.Needs.{needs}
-use borrow.Author.Tests.{eq-eqb, ne-eqb}
-use lib.ListN.{length, drop}
-use Rattle.model.specs.Basics.{all}
-use Rattle.names.specs.Answers.{isFiller}
-use Rattle.model.proofs.Scans.{all-end, all-stop, all-on}
+use lib.ListN.{length}
+use Rattle.labelling.specs.Limits.{filler}
+use Rattle.names.proofs.Marks.{Least, least-end, least-less, least-same}
 use Rattle.names.proofs.all_filler.Statement.{statement}
 use Rattle.names.proofs.all_filler.Tie as tie
 
 abbrev Inv-loop : tie.InvT-loop
-Inv-loop rest i₀ i = (i ≤ length rest) × (all isFiller rest ≡ all isFiller (drop i rest))
+Inv-loop rest least₀ i₀ least i = (i ≤ length rest) × (least ≤ filler) × Least rest i least
 
 abbrev μ-loop : tie.MeasureT-loop
-μ-loop rest i₀ i = length rest - i
+μ-loop rest least₀ i₀ least i = length rest - i
+
+loop-again : tie.Need-loop-again Inv-loop μ-loop
+loop-again c = ⊎-elim (λ w. search (least-less, needs)) (λ w. search (least-same, c .before .shared-slice-known .given, needs)) (c .if1 .came)
 
 pub all-filler-spec : {M : Type 1} → statement M
 all-filler-spec =
@@ -24,8 +25,7 @@ all-filler-spec =
     μ-loop
     (λ c. search needs)
     (λ c. search needs)
-    (λ c. search (all-stop isFiller 0, ne-eqb, needs))
     (λ c. search needs)
     (λ c. search needs)
-    (λ c. search (all-on isFiller 0, eq-eqb, needs))
-    (λ c. search (all-end isFiller, needs)))
+    loop-again
+    (λ c. search (least-end, needs)))

@@ -3,7 +3,7 @@ use Prim.Native.Nat.{_≤_, _-_}
 use mathlib.Core.Path.{_≡_}
 use borrow.Author.Needs.{needs}
 use lib.ListN.{length}
-use Rattle.model.specs.Limits.{tableSize}
+use Rattle.labelling.specs.Limits.{tableSize}
 use Rattle.names.proofs.Lens.{Written, lens-start, lens-on, lens-end}
 use Rattle.names.proofs.clue_lens.Statement.{statement}
 use Rattle.names.proofs.clue_lens.Tie as tie

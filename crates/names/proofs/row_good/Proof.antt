@@ -1,6 +1,6 @@
--- `names::row_good` meets its contract: the row is cut where its names end, and each part has its test.
+-- `names::row_good` meets its contract: a row of filling alone is good, any other is cut where its names end, and each part has its test.
 use borrow.Author.Needs.{needs}
-use Rattle.names.proofs.Marks.{cut-in, cut-long, cut-not, cut-rest}
+use Rattle.names.proofs.Marks.{filling-good, cut-in, cut-long, cut-not, cut-rest}
 use Rattle.names.proofs.row_good.Statement.{statement}
 use Rattle.names.proofs.row_good.Tie as tie
 
@@ -8,6 +8,8 @@ pub row-good-spec : {M : Type 1} → statement M
 row-good-spec =
     tie.close
     (tie.spec
+    (λ c κs. search needs)
+    (λ c. search (filling-good, needs))
     (λ c κs. search needs)
     (λ c. search (cut-long, needs))
     (λ c κs. search needs)

@@ -3,8 +3,8 @@ use Prim.Native.Nat.{_≤_, _-_}
 use mathlib.Core.Path.{_≡_}
 use borrow.Author.Needs.{needs}
 use lib.ListN.{length, drop}
-use Rattle.model.specs.Basics.{all}
-use Rattle.model.specs.Names.{goodRow}
+use Rattle.labelling.specs.Basics.{all}
+use Rattle.labelling.specs.Names.{goodRow}
 use Rattle.names.proofs.Marks.{table-end, table-bad, table-on}
 use Rattle.names.proofs.table_check.Statement.{statement}
 use Rattle.names.proofs.table_check.Tie as tie

@@ -4,8 +4,8 @@ use mir.Facts.{fits-widen}
 use Prim.Native.Nat.{_≤_, _-_}
 use mathlib.Core.Path.{_≡_, _∙_}
 use mathlib.Core.Bool.{true}
-use Rattle.model.specs.Limits.{maxDepth, labelSize}
-use Rattle.model.specs.Names.{cluesOf}
+use Rattle.labelling.specs.Limits.{maxDepth, labelSize}
+use Rattle.labelling.specs.Names.{cluesOf}
 use Rattle.soundness.specs.Rules.{depthFits}
 use Rattle.soundness.specs.declared.Soundness.the-variants as soundness
 use Rattle.soundness.proofs.Fits.{Fitting, found-fits, found-depth, fit-start, fit-on, fit-bad, fit-laid}

@@ -1,7 +1,7 @@
 -- `store::root_record` meets its contract: three words of a row of zeros written.
 use borrow.Author.Needs.{needs}
-use Rattle.model.specs.Labels.{labelWords}
-use Rattle.model.specs.Store.{elementWords}
+use Rattle.labelling.specs.Labels.{labelWords}
+use Rattle.storage.specs.Store.{elementWords}
 use Rattle.store.proofs.root_record.Statement.{statement}
 use Rattle.store.proofs.root_record.Tie as tie
 

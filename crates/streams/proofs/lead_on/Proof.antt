@@ -5,7 +5,7 @@ use borrow.Author.Needs.{needs}
 use mir.Facts.{fits-widen}
 use lib.ListN.{length, getD, take}
 use lib.Dec.{T}
-use Rattle.model.specs.Names.{cluesOf}
+use Rattle.labelling.specs.Names.{cluesOf}
 use Rattle.names.proofs.Lens.{len-is}
 use Rattle.streams.specs.Streams.{Along}
 use Rattle.streams.proofs.Leading.{lead-along, lead-end, lead-stuck, lead-next}

@@ -3,7 +3,7 @@ use Prim.Native.Nat.{_≤_, _-_}
 use mathlib.Core.Path.{_≡_}
 use borrow.Author.Needs.{needs}
 use lib.ListN.{length}
-use Rattle.model.specs.Twigs.{readTwig}
+use Rattle.patterns.specs.Twigs.{readTwig}
 use Rattle.twigs.proofs.Nodes.{node-bytes}
 use Rattle.twigs.proofs.Checks.{Checked, length-refused, node-refused, checked-on, twig-passed}
 use Rattle.twigs.proofs.check_twig.Statement.{statement}

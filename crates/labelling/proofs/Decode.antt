@@ -1,0 +1,140 @@
+-- Decoding, one component more at the end.
+use mathlib.Core.Path.{_≡_, refl, sym, ap, _∙_}
+use mathlib.Core.List.{List, [], _∷_, _++_, append-nil, append-assoc}
+use mathlib.Core.Option.{Option, none, some}
+use Prim.Native.Nat.{ℕ, suc, _-_, _≤_}
+use native.Mathlib.Omega.{arith}
+use lib.ListN.{length, take}
+use Rattle.labelling.specs.Basics.{elim?, last}
+use Rattle.labelling.specs.Names.{Clues, led}
+use Rattle.labelling.specs.Labels.{Label, Decoded, path, stuck, behind, decode, endOf, nameAt}
+use Rattle.labelling.proofs.LabelOrder.{last-snoc}
+
+-- what a label decodes to, led on by one component more
+unfoldable pub further : Clues → Decoded → ℕ → Decoded
+further cl (path ns) k = elim? (led (cl (last ns)) k) (stuck (length ns)) (λ c. path (ns ++ (c ∷ [])))
+further cl (stuck i) k = stuck i
+
+-- equal paths have equal names
+pub path-names : {ms ns : List ℕ} → path ms ≡ path ns → ms ≡ ns
+path-names e = cc
+
+-- a label that is stuck has no path
+pub stuck-path : {i : ℕ} {ns : List ℕ} → stuck i ≡ path ns → ⊥
+stuck-path e = let z : _≡_ {A = ℕ} 0 1 = cc in omega arith
+
+-- the last of a list of two or more is the last of its rest
+last-cons : (x y : ℕ) (ys : List ℕ) → last (x ∷ y ∷ ys) ≡ last (y ∷ ys)
+unfolding last
+last-cons x y ys =
+    let e : suc (suc (length ys)) - 1 ≡ suc (length ys) = omega arith in
+    let f : suc (length ys) - 1 ≡ length ys = omega arith in
+    rw (e, f)
+
+-- a path begins with the name it starts at, and has one name more than the label has components
+pub record Starts (p : ℕ) (l : Label) (d : Decoded) : Type 0 where
+  pub begins : (ns : List ℕ) → d ≡ path ns → (rest : List ℕ) × (ns ≡ p ∷ rest) × (length rest ≡ length l)
+  -- a label that is stuck is stuck at one of its components
+  pub stops : (i : ℕ) → d ≡ stuck i → (1 ≤ i) × (i ≤ length l)
+
+-- so does every label's
+pub starts : (cl : Clues) (p : ℕ) (l : Label) → Starts p l (decode cl p l)
+unfolding decode behind elim?
+starts cl p [] = record { begins = λ ns e. ([], sym (path-names e), refl); stops = λ i e. absurd (stuck-path (sym e)) }
+starts cl p (x ∷ l) = go (λ c. starts cl c l) (led (cl p) x)
+  where
+    met : {c : ℕ} (d : Decoded) → Starts c l d → Starts p (x ∷ l) (behind p d)
+    met (path ms) s = record {
+      begins = λ ns e. let (rest, f, n) = s .begins ms refl in (ms, sym (path-names e), ap length f ∙ ap suc n);
+      stops = λ i e. absurd (stuck-path (sym e));
+    }
+    met (stuck j) s = record {
+      begins = λ ns e. absurd (stuck-path e);
+      stops = λ i e. let (a, b) = s .stops j refl in let f : suc j ≡ i = cc in omega arith;
+    }
+
+    go : ((c : ℕ) → Starts c l (decode cl c l)) → (o : Option ℕ) → Starts p (x ∷ l) (elim? o (stuck 1) (λ c. behind p (decode cl c l)))
+    go ih none = record { begins = λ ns e. absurd (stuck-path e); stops = λ i e. let f : _≡_ {A = ℕ} 1 i = cc in omega arith }
+    go ih (some c) = met (decode cl c l) (ih c)
+
+-- a name in front and a component at the end change places
+behind-further : (cl : Clues) (p : ℕ) {c : ℕ} {l : Label} (d : Decoded) → Starts c l d → (k : ℕ) → behind p (further cl d k) ≡ further cl (behind p d) k
+unfolding further behind elim?
+behind-further cl p (stuck i) s k = refl
+behind-further cl p (path []) s k = let (rest, e, n) = s .begins [] refl in absurd (omega (arith, ap length e))
+behind-further cl p (path (n ∷ ns)) s k = rw last-cons (go (led (cl (last (n ∷ ns))) k))
+  where
+    go : (o : Option ℕ) →
+        behind p (elim? o (stuck (length (n ∷ ns))) (λ c. path (n ∷ (ns ++ (c ∷ []))))) ≡
+        elim? o (stuck (length (p ∷ n ∷ ns))) (λ c. path (p ∷ n ∷ (ns ++ (c ∷ []))))
+    go none = refl
+    go (some c) = refl
+
+-- decoding one component more
+pub decode-snoc : (cl : Clues) (p : ℕ) (l : Label) (k : ℕ) → decode cl p (l ++ (k ∷ [])) ≡ further cl (decode cl p l) k
+unfolding decode further elim? behind last
+decode-snoc cl p [] k = refl
+decode-snoc cl p (x ∷ l) k = go (λ c. decode-snoc cl c l k) (led (cl p) x)
+  where
+    go : ((c : ℕ) → decode cl c (l ++ (k ∷ [])) ≡ further cl (decode cl c l) k) → (o : Option ℕ) →
+        elim? o (stuck 1) (λ c. behind p (decode cl c (l ++ (k ∷ [])))) ≡ further cl (elim? o (stuck 1) (λ c. behind p (decode cl c l))) k
+    go ih none = refl
+    go ih (some c) = ap (behind p) (ih c) ∙ behind-further cl p (decode cl c l) (starts cl c l) k
+
+-- a label that goes on from one that is stuck is stuck there too
+pub stuck-more : (cl : Clues) (p : ℕ) (l m : Label) (i : ℕ) → decode cl p l ≡ stuck i → decode cl p (l ++ m) ≡ stuck i
+stuck-more cl p l [] i e = ap (decode cl p) (append-nil l) ∙ e
+stuck-more cl p l (x ∷ m) i e =
+    ap (decode cl p) (sym (append-assoc l (x ∷ []) m)) ∙
+    stuck-more cl p (l ++ (x ∷ [])) m i (decode-snoc cl p l x ∙ ap (λ d. further cl d x) e ∙ unfold further in refl)
+
+-- the names along a label begin with those along a label that it goes on from
+pub decode-front : (cl : Clues) (p : ℕ) (l m : Label) (ns : List ℕ) → decode cl p (l ++ m) ≡ path ns → decode cl p l ≡ path (take (suc (length l)) ns)
+unfolding decode behind elim?
+decode-front cl p [] m ns e = let (rest, f, n) = starts cl p m .begins ns e in rw f
+decode-front cl p (x ∷ l) m ns e = go (λ c. decode-front cl c l m) (led (cl p) x) e
+  where
+    met : (c : ℕ) (d : Decoded) → ((ms : List ℕ) → d ≡ path ms → decode cl c l ≡ path (take (suc (length l)) ms)) → behind p d ≡ path ns →
+        behind p (decode cl c l) ≡ path (take (suc (suc (length l))) ns)
+    met c (path ms) ih e = rw (ih ms refl, ← path-names e)
+    met c (stuck i) ih e = absurd (stuck-path e)
+
+    go : ((c : ℕ) (ms : List ℕ) → decode cl c (l ++ m) ≡ path ms → decode cl c l ≡ path (take (suc (length l)) ms)) → (o : Option ℕ) →
+        elim? o (stuck 1) (λ c. behind p (decode cl c (l ++ m))) ≡ path ns →
+        elim? o (stuck 1) (λ c. behind p (decode cl c l)) ≡ path (take (suc (suc (length l))) ns)
+    go ih none e = absurd (stuck-path e)
+    go ih (some c) e = met c (decode cl c (l ++ m)) (ih c) e
+
+-- a component that leads to a name makes the path one name longer
+pub decode-child : (cl : Clues) (p : ℕ) (l : Label) (ns : List ℕ) (k c : ℕ) → decode cl p l ≡ path ns → led (cl (last ns)) k ≡ some c →
+    decode cl p (l ++ (k ∷ [])) ≡ path (ns ++ (c ∷ []))
+unfolding further elim?
+decode-child cl p l ns k c e h = decode-snoc cl p l k ∙ rw (e, h)
+
+-- the last name of a path is what the last component leads to from the last name of the path above
+pub led-end : (cl : Clues) (p : ℕ) (l : Label) (ns ms : List ℕ) (k : ℕ) → decode cl p l ≡ path ns → decode cl p (l ++ (k ∷ [])) ≡ path ms →
+    led (cl (last ns)) k ≡ some (last ms)
+unfolding further elim?
+led-end cl p l ns ms k e f = go (led (cl (last ns)) k) (sym (ap (λ d. further cl d k) e) ∙ sym (decode-snoc cl p l k) ∙ f)
+  where
+    go : (o : Option ℕ) → elim? o (stuck (length ns)) (λ c. path (ns ++ (c ∷ []))) ≡ path ms → o ≡ some (last ms)
+    go none e = absurd (stuck-path e)
+    go (some c) e = ap some (sym (last-snoc ns c) ∙ ap last (path-names e))
+
+-- a label that decodes to a path decodes to the path's last name
+pub name-end : (cl : Clues) (p : ℕ) (l : Label) (ns : List ℕ) → decode cl p l ≡ path ns → nameAt cl p l ≡ some (last ns)
+unfolding nameAt endOf
+name-end cl p l ns e = rw e
+
+-- the name that a child's label decodes to is the one that its last component leads to
+pub name-child : (cl : Clues) (p : ℕ) (l : Label) (k n : ℕ) → nameAt cl p l ≡ some n → nameAt cl p (l ++ (k ∷ [])) ≡ led (cl n) k
+unfolding nameAt endOf further elim?
+name-child cl p l k n e = ap endOf (decode-snoc cl p l k) ∙ go (decode cl p l) e
+  where
+    end : (ns : List ℕ) (o : Option ℕ) → endOf (elim? o (stuck (length ns)) (λ c. path (ns ++ (c ∷ [])))) ≡ o
+    end ns none = refl
+    end ns (some c) = ap some (last-snoc ns c)
+
+    go : (d : Decoded) → endOf d ≡ some n → endOf (further cl d k) ≡ led (cl n) k
+    go (path ns) e = let f : last ns ≡ n = cc in rw f (end ns (led (cl n) k))
+    go (stuck i) e = let z : _≡_ {A = Option ℕ} none (some n) = e in cc

@@ -1,0 +1,46 @@
+-- What is written over an output, and what a call that fills one answers.
+use mathlib.Core.Path.{_≡_, refl, ap}
+use mathlib.Core.List.{List}
+use mathlib.Core.Option.{Option, none, some, Option·none-ne-some, Option·some-ne-none}
+use Prim.Native.Nat.{ℕ, _≤_}
+use native.Mathlib.Omega.{arith}
+use lib.ListN.{length, take, drop, length-append, length-drop}
+use lib.Seq.{take-at, drop-at}
+use Rattle.labelling.specs.Basics.{over}
+use Rattle.labelling.specs.Refusals.{Refusal}
+use Rattle.labelling.specs.Outputs.{Listing, listed}
+
+-- what is written is written from the start
+pub take-over : (ws out : List ℕ) → take (length ws) (over ws out) ≡ ws
+unfolding over
+take-over ws out = take-at ws (drop (length ws) out) (length ws) refl
+
+-- past it nothing is touched
+pub drop-over : (ws out : List ℕ) → drop (length ws) (over ws out) ≡ drop (length ws) out
+unfolding over
+drop-over ws out = drop-at ws (drop (length ws) out) (length ws) refl
+
+-- an output that holds what is written keeps its length
+pub length-over : (ws out : List ℕ) → length ws ≤ length out → length (over ws out) ≡ length out
+unfolding over
+length-over ws out h = simp (length-append, length-drop) (omega arith)
+
+-- what is listed carries its refusal
+pub listed-refusal : (o : Option Refusal) (count : ℕ) (ws out : List ℕ) → listed o count ws out .refusal ≡ o
+unfolding listed
+listed-refusal none count ws out = refl
+listed-refusal (some r) count ws out = refl
+
+-- what is not refused is listed whole
+pub listed-whole : (o : Option Refusal) (count : ℕ) (ws out : List ℕ) → o ≡ none →
+    listed o count ws out ≡ record { refusal = none; count = count; output = over ws out }
+unfolding listed
+listed-whole none count ws out e = refl
+listed-whole (some r) count ws out e = absurd (Option·some-ne-none r e)
+
+-- what is refused is listed with a count of 0 and the output as it was
+pub listed-refused : (o : Option Refusal) (count : ℕ) (ws out : List ℕ) (r : Refusal) → listed o count ws out .refusal ≡ some r →
+    listed o count ws out ≡ record { refusal = some r; count = 0; output = out }
+unfolding listed
+listed-refused none count ws out r e = absurd (Option·none-ne-some r e)
+listed-refused (some q) count ws out r e = ap {B = Listing} (λ o. record { refusal = o; count = 0; output = out }) e

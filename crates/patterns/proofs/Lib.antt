@@ -1,0 +1,18 @@
+-- Twigs and their matches.
+pub mod TwigBytes
+pub mod Asking
+pub mod Prefixes
+pub mod Closure
+pub mod MatchOrder
+pub mod Choices
+pub mod Matches
+pub mod Paths
+pub mod Deltas
+pub mod MatchWords
+-- Streams in a buffer.
+pub mod Buffers
+pub mod StreamChecks
+-- Examples.
+pub mod Computing
+pub mod Examples
+pub mod RefusalChecks

@@ -1,0 +1,186 @@
+-- The bytes of a twig: which are accepted, which record a refusal names, and what is read; accepted bytes give a good twig.
+use mathlib.Core.Path.{_≡_, refl, sym, _∙_}
+use mathlib.Core.Logic.{_↔_, _⊎_, ⊎-elim, Iff·trans}
+use mathlib.Core.Bool.{_&&_}
+use mathlib.Core.List.{List, [], _∷_}
+use mathlib.Core.Option.{none, some, Option·none-ne-some}
+use Prim.Native.Nat.{ℕ, zero, suc, _+_, _*_, _%_, _≤_, _<_}
+use native.Mathlib.Nat.{zero-add, add-zero, suc-add}
+use native.Mathlib.Numerals.{unary-clauses}
+use native.Mathlib.Omega.{arith}
+use lib.ListN.{length, getD, take}
+use lib.Dec.{T, leb, ltb, eqb, leb→le, le→leb, ltb→lt, lt→ltb, eqb·suc-zero}
+use Rattle.labelling.specs.Limits.{nodeSize, maxTwig, maxName, anyName, noParent}
+use Rattle.labelling.specs.Refusals.{Refusal, twigLength, twigParent, twigEdge, nameAsked, twigEnd}
+use Rattle.labelling.specs.Names.{isName}
+use Rattle.patterns.specs.Twigs.{GoodTwig, childEdge, descendantEdge, nodeAt, readTwig, parentFits, nameCheck, nodeCheck, nodesCheck, twigCheck}
+use Rattle.labelling.proofs.Tests.{eqb-alike, and-facts, or-facts}
+use Rattle.labelling.proofs.Refusals.{check-iff, first-iff, last-iff, first-some, first-here, first-next, first-place, last-place}
+
+-- a parent fits exactly if record 0 has none and another has an earlier one
+parentFits-iff : (i p : ℕ) → T (parentFits i p) ↔ ((i ≡ 0 → p ≡ noParent) × (0 < i → p < i))
+unfolding parentFits
+parentFits-iff zero p = (λ t. (λ e. eqb-alike p noParent .0 t, λ k. absurd (omega arith)), λ h. eqb-alike p noParent .1 (h .0 refl))
+parentFits-iff (suc i) p = rw eqb·suc-zero
+    (λ t. (λ e. absurd (omega arith), λ k. ltb→lt p (suc i) t), λ h. lt→ltb p (suc i) (h .1 (omega arith)))
+
+-- a name may be asked for exactly if it is one or 255
+pub nameCheck-iff : (want place : ℕ) → nameCheck want place ≡ none ↔ ((want ≤ maxName) ⊎ (want ≡ anyName))
+unfolding nameCheck isName
+nameCheck-iff want place = check-iff _ nameAsked place
+    (or-facts (leb want maxName) (eqb want anyName) (leb→le want maxName, le→leb want maxName) (eqb-alike want anyName))
+
+-- the facts of refusals 5 to 8: the four bytes of record i are a parent's number, an edge, a name and a zero
+pub record NodeFacts (i p e n z : ℕ) : Type 0 where
+  pub rooted : i ≡ 0 → p ≡ noParent
+  pub earlier : 0 < i → p < i
+  pub edge : (e ≡ childEdge) ⊎ (e ≡ descendantEdge)
+  pub name : (n ≤ maxName) ⊎ (n ≡ anyName)
+  pub end : z ≡ 0
+
+-- a record is accepted exactly if the facts hold
+pub nodeCheck-iff : (i p e n z : ℕ) → nodeCheck i p e n z ≡ none ↔ NodeFacts i p e n z
+unfolding nodeCheck
+nodeCheck-iff i p e n z = Iff·trans
+    (first-iff _ _ (check-iff (parentFits i p) twigParent i (parentFits-iff i p))
+    (first-iff _ _ (check-iff _ twigEdge i (or-facts (eqb e childEdge) (eqb e descendantEdge) (eqb-alike e childEdge) (eqb-alike e descendantEdge)))
+    (first-iff _ _ (nameCheck-iff n i)
+    (last-iff _ (check-iff (eqb z 0) twigEnd i (eqb-alike z 0)))))) (
+      λ h. record { rooted = h .0 .0; earlier = h .0 .1; edge = h .1 .0; name = h .1 .1 .0; end = h .1 .1 .1 },
+      λ f. ((f .rooted, f .earlier), (f .edge, (f .name, f .end))),
+    )
+
+-- the facts of a record with the number m at place j: its bytes are the four from 4 * j on
+abbrev pub FactsAt : ℕ → List ℕ → ℕ → Type 0
+FactsAt m bytes j =
+    NodeFacts m (getD bytes (nodeSize * j) 0) (getD bytes (nodeSize * j + 1) 0) (getD bytes (nodeSize * j + 2) 0) (getD bytes (nodeSize * j + 3) 0)
+
+-- the facts of a later record are those of the bytes after the first
+facts-later : (i p e n z : ℕ) (bytes : List ℕ) (j : ℕ) → FactsAt (i + suc j) (p ∷ e ∷ n ∷ z ∷ bytes) (suc j) ≡ FactsAt (suc i + j) bytes j
+facts-later i p e n z bytes j = simp (unary-clauses, suc-add)
+
+-- records are accepted exactly if the facts of each hold
+pub nodesCheck-iff : (i : ℕ) (bytes : List ℕ) → nodesCheck i bytes ≡ none ↔ ((j : ℕ) → nodeSize * j + 3 < length bytes → FactsAt (i + j) bytes j)
+unfolding nodesCheck
+nodesCheck-iff i [] = (λ h j k. absurd (omega arith), λ h. refl)
+nodesCheck-iff i (p ∷ []) = (λ h j k. absurd (omega arith), λ h. refl)
+nodesCheck-iff i (p ∷ e ∷ []) = (λ h j k. absurd (omega arith), λ h. refl)
+nodesCheck-iff i (p ∷ e ∷ n ∷ []) = (λ h j k. absurd (omega arith), λ h. refl)
+nodesCheck-iff i (p ∷ e ∷ n ∷ z ∷ bytes) = Iff·trans
+    (first-iff _ _ (nodeCheck-iff i p e n z) (last-iff _ (nodesCheck-iff (suc i) bytes)))
+    (λ h. each (h .0) (h .1), λ h. (rw add-zero at (h 0 (omega arith)), λ j k. rw facts-later at (h (suc j) (omega arith))))
+  where
+    each : NodeFacts i p e n z → ((j : ℕ) → nodeSize * j + 3 < length bytes → FactsAt (suc i + j) bytes j) →
+        (j : ℕ) → nodeSize * j + 3 < length (p ∷ e ∷ n ∷ z ∷ bytes) → FactsAt (i + j) (p ∷ e ∷ n ∷ z ∷ bytes) j
+    each this rest zero k = rw add-zero this
+    each this rest (suc j) k = rw facts-later (rest j (omega arith))
+
+-- the facts of refusals 4 to 8: the length, and the facts of each record, its number being its place
+pub record TwigFacts (bytes : List ℕ) : Type 0 where
+  pub some-record : 0 < length bytes
+  pub few : length bytes ≤ maxTwig
+  pub fours : length bytes % nodeSize ≡ 0
+  pub records : (i : ℕ) → nodeSize * i < length bytes → FactsAt i bytes i
+
+-- a length is a twig's exactly if it is not 0, at most 32 and a multiple of 4
+length-iff : (n : ℕ) → T (ltb 0 n && leb n maxTwig && eqb (n % nodeSize) 0) ↔ (((0 < n) × (n ≤ maxTwig)) × (n % nodeSize ≡ 0))
+length-iff n = and-facts (ltb 0 n && leb n maxTwig) (eqb (n % nodeSize) 0)
+    (and-facts (ltb 0 n) (leb n maxTwig) (ltb→lt 0 n, lt→ltb 0 n) (leb→le n maxTwig, le→leb n maxTwig)) (eqb-alike (n % nodeSize) 0)
+
+-- bytes are accepted as a twig exactly if the facts hold
+pub twigCheck-iff : (bytes : List ℕ) → twigCheck bytes ≡ none ↔ TwigFacts bytes
+unfolding twigCheck
+twigCheck-iff bytes = Iff·trans (first-iff _ _ (check-iff _ twigLength 0 (length-iff (length bytes))) (last-iff _ (nodesCheck-iff 0 bytes))) (
+  λ h. record {
+    some-record = h .0 .0 .0;
+    few = h .0 .0 .1;
+    fours = h .0 .1;
+    records = λ i k. rw zero-add at (h .1 i (omega (arith, h .0 .1)));
+  },
+  λ f. (((f .some-record, f .few), f .fours), λ i k. rw zero-add (f .records i (omega arith))),
+)
+
+-- a record is refused at its own number
+nodeCheck-place : (i p e n z : ℕ) (r : Refusal) → nodeCheck i p e n z ≡ some r → r .place ≡ i
+unfolding nodeCheck nameCheck
+nodeCheck-place i p e n z r =
+    first-place _ _ i _ r (first-place _ _ i _ r (first-place _ _ i _ r (last-place _ _ i r)))
+
+-- the record at which records are refused: those before it are accepted, and up to it they are refused alike
+record Fault (i : ℕ) (bytes : List ℕ) (r : Refusal) : Type 0 where
+  node : ℕ
+  inside : nodeSize * node < length bytes
+  placed : r .place ≡ i + node
+  accepted : nodesCheck i (take (nodeSize * node) bytes) ≡ none
+  refused : nodesCheck i (take (nodeSize * suc node) bytes) ≡ some r
+
+-- the bytes up to a later record
+take-later : (p e n z : ℕ) (bytes : List ℕ) (j : ℕ) → take (nodeSize * suc j) (p ∷ e ∷ n ∷ z ∷ bytes) ≡ p ∷ e ∷ n ∷ z ∷ take (nodeSize * j) bytes
+take-later p e n z bytes j = simp unary-clauses
+
+-- records that are refused have such a record
+fault-of : (i : ℕ) (bytes : List ℕ) (r : Refusal) → nodesCheck i bytes ≡ some r → Fault i bytes r
+unfolding nodesCheck
+fault-of i [] r h = absurd (Option·none-ne-some r h)
+fault-of i (p ∷ []) r h = absurd (Option·none-ne-some r h)
+fault-of i (p ∷ e ∷ []) r h = absurd (Option·none-ne-some r h)
+fault-of i (p ∷ e ∷ n ∷ []) r h = absurd (Option·none-ne-some r h)
+fault-of i (p ∷ e ∷ n ∷ z ∷ bytes) r h =
+    ⊎-elim now (λ k. later (k .0) (fault-of (suc i) bytes r (sym (first-next _ _ (k .0)) ∙ h))) (first-some _ _ r h)
+  where
+    now : nodeCheck i p e n z ≡ some r → Fault i (p ∷ e ∷ n ∷ z ∷ bytes) r
+    now d = record {
+      node = 0;
+      inside = omega arith;
+      placed = omega (arith, nodeCheck-place i p e n z r d);
+      accepted = refl;
+      refused = first-here r _ _ d;
+    }
+
+    later : nodeCheck i p e n z ≡ none → Fault (suc i) bytes r → Fault i (p ∷ e ∷ n ∷ z ∷ bytes) r
+    later d f = record {
+      node = suc (f .node);
+      inside = omega (arith, f .inside);
+      placed = omega (arith, f .placed);
+      accepted = rw take-later (first-next _ _ d ∙ f .accepted);
+      refused = rw take-later (first-next _ _ d ∙ f .refused);
+    }
+
+-- a refusal names the first record that is at fault
+pub nodesCheck-first : (i : ℕ) (bytes : List ℕ) (r : Refusal) → nodesCheck i bytes ≡ some r →
+    (j : ℕ) × (nodeSize * j < length bytes) × (r .place ≡ i + j) ×
+    (nodesCheck i (take (nodeSize * j) bytes) ≡ none) × (nodesCheck i (take (nodeSize * suc j) bytes) ≡ some r)
+nodesCheck-first i bytes r h = let f = fault-of i bytes r h in (f .node, f .inside, f .placed, f .accepted, f .refused)
+
+-- a twig has a record for every four bytes
+pub length-readTwig : (bytes : List ℕ) → (4 * length (readTwig bytes) ≤ length bytes) × (length bytes < 4 * length (readTwig bytes) + 4)
+unfolding readTwig
+length-readTwig [] = omega arith
+length-readTwig (p ∷ []) = omega arith
+length-readTwig (p ∷ e ∷ []) = omega arith
+length-readTwig (p ∷ e ∷ n ∷ []) = omega arith
+length-readTwig (p ∷ e ∷ n ∷ z ∷ bytes) = let h = length-readTwig bytes in omega arith
+
+-- record i of the twig read is what stands at its four bytes
+pub readTwig-at : (bytes : List ℕ) (i : ℕ) → nodeSize * i + 3 < length bytes → nodeAt (readTwig bytes) i ≡
+    record { parent = getD bytes (nodeSize * i) 0; edge = getD bytes (nodeSize * i + 1) 0; name = getD bytes (nodeSize * i + 2) 0 }
+unfolding readTwig
+readTwig-at [] i k = absurd (omega arith)
+readTwig-at (p ∷ []) i k = absurd (omega arith)
+readTwig-at (p ∷ e ∷ []) i k = absurd (omega arith)
+readTwig-at (p ∷ e ∷ n ∷ []) i k = absurd (omega arith)
+readTwig-at (p ∷ e ∷ n ∷ z ∷ bytes) zero k = refl
+readTwig-at (p ∷ e ∷ n ∷ z ∷ bytes) (suc i) k = simp unary-clauses (simp unary-clauses at (readTwig-at bytes i (omega arith)))
+
+-- accepted bytes give a good twig
+pub accepted-twig : (bytes : List ℕ) → twigCheck bytes ≡ none → GoodTwig (readTwig bytes)
+accepted-twig bytes h =
+    let f = twigCheck-iff bytes .0 h in
+    let long = length-readTwig bytes in
+    let at = readTwig-at bytes in
+    record {
+      some-record = omega arith;
+      few = omega arith;
+      rooted = rw (at 0 (omega arith)) (f .records 0 (omega arith) .rooted refl);
+      earlierParent = λ i p k. rw (at i (omega arith)) (f .records i (omega arith) .earlier p);
+    }

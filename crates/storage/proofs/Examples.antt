@@ -1,0 +1,19 @@
+-- The examples of records, and of new store, entry and deletion, hold.
+use mathlib.Core.Path.{_≡_, refl}
+use mathlib.Core.List.{[], _∷_}
+use mathlib.Core.Option.{some}
+use Rattle.labelling.specs.Names.{cluesOf}
+use Rattle.labelling.specs.Examples.{Hold, shortTable}
+use Rattle.storage.specs.Store.{elementWords, layoutRule, broken}
+use Rattle.storage.specs.Examples.{elementOf, updateChecks}
+use Rattle.storage.proofs.Computing.{computing}
+
+-- each answers and leaves what the paper says
+pub update-checks : Hold updateChecks
+unfolding computing
+update-checks = refl
+
+-- a second record of depth 0 breaks the first rule, not that of order
+pub second-root : broken (cluesOf shortTable) (elementOf [] 0 0 8 9 ∷ []) (elementWords (elementOf [] 0 0 8 9)) ≡ some layoutRule
+unfolding computing
+second-root = refl

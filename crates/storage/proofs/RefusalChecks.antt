@@ -1,0 +1,25 @@
+-- Every refusal of new store, entry, deletion and cutting at its corner is what the paper says.
+use mathlib.Core.Path.{refl}
+use Rattle.labelling.specs.Examples.{Hold}
+use Rattle.storage.specs.RefusalChecks.{newStoreRefusals, entryRefusals, deletionRefusals, cutRefusals}
+use Rattle.storage.proofs.Computing.{computing}
+
+-- the refusals of a new store have their numbers and places
+pub new-store-refusals : Hold newStoreRefusals
+unfolding computing
+new-store-refusals = refl
+
+-- those of an entry
+pub entry-refusals : Hold entryRefusals
+unfolding computing
+entry-refusals = refl
+
+-- those of a deletion
+pub deletion-refusals : Hold deletionRefusals
+unfolding computing
+deletion-refusals = refl
+
+-- and those of cutting
+pub cut-refusals : Hold cutRefusals
+unfolding computing
+cut-refusals = refl

@@ -1,0 +1,79 @@
+-- Sizes of slices and counts, and how many elements are read and placed.
+use mathlib.Core.Path.{_≡_, refl, ap}
+use mathlib.Core.Logic.{_↔_, Iff·trans}
+use mathlib.Core.Bool.{Bool, true, false, cond, _&&_, _||_}
+use mathlib.Core.List.{[], _∷_, List}
+use mathlib.Core.Option.{none}
+use Prim.Native.Nat.{zero, suc, ℕ, _%_, _*_, _<_, _≤_, _+_}
+use lib.ListN.{drop, length}
+use lib.Dec.{T, ltb, leb, eqb, leb→le, ltb→lt, lt→ltb, le→leb}
+use Rattle.labelling.specs.Basics.{_∈_}
+use Rattle.labelling.specs.Limits.{recordSize, maxElements}
+use Rattle.labelling.specs.Refusals.{noSpace, storeSize}
+use Rattle.labelling.specs.Labels.{Label, within, before}
+use Rattle.storage.specs.Store.{elements, isSlice, sizeCheck, records, Element}
+use Rattle.storage.specs.Updates.{placed, spaceCheck}
+use Rattle.labelling.proofs.Tests.{eqb-alike, and-facts}
+use Rattle.labelling.proofs.Lists.{for-cons, here, there}
+use Rattle.labelling.proofs.Refusals.{check-iff}
+
+-- a slice's length is accepted for a new store exactly if it is a multiple of 20, not 0
+pub slice-iff : (len : ℕ) → T (isSlice len) ↔ ((len % recordSize ≡ 0) × (0 < len))
+unfolding isSlice
+slice-iff len = and-facts (eqb (len % recordSize) 0) (ltb 0 len) (eqb-alike (len % recordSize) 0) (ltb→lt 0 len, lt→ltb 0 len)
+
+-- the facts of refusal 18
+pub record Sized (len count : ℕ) : Type 0 where
+  pub whole : len % recordSize ≡ 0
+  pub positive : 0 < len
+  pub used : 0 < count
+  pub held : recordSize * count ≤ len
+  pub few : count ≤ maxElements
+
+-- sizes are accepted exactly if the facts hold
+pub size-iff : (len count : ℕ) → sizeCheck len count ≡ none ↔ Sized len count
+unfolding sizeCheck
+size-iff len count =
+    let used : Bool = isSlice len && ltb 0 count in
+    let held : Bool = leb (recordSize * count) len in
+    let few : Bool = leb count maxElements in
+    Iff·trans (check-iff (used && held && few) storeSize 0 (and-facts (used && held) few
+    (and-facts used held (and-facts (isSlice len) (ltb 0 count) (slice-iff len) (ltb→lt 0 count, lt→ltb 0 count))
+    (leb→le (recordSize * count) len, le→leb (recordSize * count) len)) (leb→le count maxElements, le→leb count maxElements))) (
+      λ h. record { whole = h .0 .0 .0 .0; positive = h .0 .0 .0 .1; used = h .0 .0 .1; held = h .0 .1; few = h .1 },
+      λ s. ((((s .whole, s .positive), s .used), s .held), s .few),
+    )
+
+-- there is a free record exactly if one more fits the slice and fewer than 4,096 are in use
+pub space-iff : (len count : ℕ) → spaceCheck len count ≡ none ↔ ((recordSize * (count + 1) ≤ len) × (count < maxElements))
+unfolding spaceCheck
+space-iff len count =
+    check-iff _ noSpace 0 (and-facts (leb (recordSize * (count + 1)) len) (ltb count maxElements)
+    (leb→le (recordSize * (count + 1)) len, le→leb (recordSize * (count + 1)) len) (ltb→lt count maxElements, lt→ltb count maxElements))
+
+-- as many records are read as there are
+pub length-elements-read : (count : ℕ) (ws : List ℕ) → length (elements count ws) ≡ count
+unfolding elements records
+length-elements-read zero ws = refl
+length-elements-read (suc n) ws = ap suc (length-elements-read n (drop recordSize ws))
+
+-- placing adds one element
+pub length-placed : (l : Label) (new : Element) (es : List Element) → length (placed l new es) ≡ suc (length es)
+unfolding placed
+length-placed l new [] = refl
+length-placed l new (e ∷ es) = go (within l (e .label) || before (e .label) l) (length-placed l new es)
+  where
+    go : (c : Bool) → length (placed l new es) ≡ suc (length es) → length (cond c (e ∷ placed l new es) (new ∷ e ∷ es)) ≡ suc (suc (length es))
+    go true below = ap suc below
+    go false below = refl
+
+-- and no other
+pub placed-only : (l : Label) (new : Element) (es : List Element) (P : Element → Type 0) → P new → ((e : Element) → e ∈ es → P e) →
+    (e : Element) → e ∈ placed l new es → P e
+unfolding placed
+placed-only l new [] P p q = for-cons P p q
+placed-only l new (x ∷ es) P p q = go (within l (x .label) || before (x .label) l) (placed-only l new es P p (λ e m. q e (there m)))
+  where
+    go : (c : Bool) → ((e : Element) → e ∈ placed l new es → P e) → (e : Element) → e ∈ cond c (x ∷ placed l new es) (new ∷ x ∷ es) → P e
+    go true below = for-cons P (q x (here refl)) below
+    go false below = for-cons P p q

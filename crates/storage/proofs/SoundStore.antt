@@ -1,0 +1,269 @@
+-- What holds of a sound store, from a run or not.
+use mathlib.Core.Path.{_≡_, refl, sym, ap, subst, _∙_}
+use mathlib.Core.Logic.{_⊎_, ⊎-map}
+use mathlib.Core.Bool.{Bool, true, false, cond, _||_, not}
+use mathlib.Core.List.{List, [], _∷_, map}
+use mathlib.Core.Option.{Option, none, some, Option·none-ne-some, Option·some-ne-none}
+use Prim.Native.Nat.{ℕ, suc, _≤_, _<_}
+use native.Mathlib.Omega.{arith}
+use lib.ListN.{length, getD, take, drop, length-take, length-drop}
+use lib.Seq.{length-take-le}
+use lib.Dec.{T, ltb, eqb, leb→le, ltb→lt}
+use Rattle.labelling.specs.Basics.{_∈_, elim?, all, last, Ascending, none-left, one-more}
+use Rattle.labelling.specs.Limits.{maxName, maxDepth, labelSize, recordSize}
+use Rattle.labelling.specs.Names.{Clues, led, isName}
+use Rattle.labelling.specs.Labels.{Label, before, same, above, nameAt, endOf, decode, labelOf}
+use Rattle.storage.specs.Store.{Element, Rule, readElement, records, elements, find, test, laidOut, leads, closed, broken, fault, parentRule, nameRule, lastRule, nextRule}
+use Rattle.labelling.proofs.Tests.{Tells, passes, or-iff, and-iff, eqb-alike}
+use Rattle.labelling.proofs.Lists.{here, there, nowhere, for-cons}
+use Rattle.labelling.proofs.LabelOrder.{before-order, above-last, above-before, same?}
+use Rattle.labelling.proofs.Decode.{name-child}
+use Rattle.labelling.proofs.LabelWords.{GoodLabel, isLabel-iff, labelOf-good, labelOf-take}
+use Rattle.storage.proofs.Relaid.{laid-depth, test-none}
+use Rattle.storage.proofs.Faults.{fault-cons}
+
+-- the order of elements by their labels
+abbrev pub ahead : Element → Element → Bool
+ahead e f = before (e .label) (f .label)
+
+-- elements in label order, each label decoding to its element's name under a root name
+pub record SoundElements (cl : Clues) (root : ℕ) (es : List Element) : Type 0 where
+  pub rootIsName : root ≤ maxName
+  pub ordered : Ascending ahead es
+  pub labelled : (e : Element) → e ∈ es → GoodLabel (e .label)
+  pub named : (e : Element) → e ∈ es → nameAt cl root (e .label) ≡ some (e .name)
+
+-- an element's next number is 0 where nothing may stand below it
+abbrev pub Closed : Clues → Element → Type 0
+Closed cl e = (length (cl (e .name)) ≡ 0) ⊎ (length (e .label) ≡ maxDepth) → e .next ≡ 0
+
+-- an element below another of a store: the other stands earlier, right above it, and its clue and next number allow the last component
+pub record Child (cl : Clues) (es : List Element) (e : Element) : Type 0 where
+  pub deeper : 0 < length (e .label)
+  pub parent : Element
+  pub stands : parent ∈ es
+  pub earlier : T (ahead parent e)
+  pub rightAbove : parent .label ≡ above (e .label)
+  pub named : led (cl (parent .name)) (last (e .label)) ≡ some (e .name)
+  pub below : last (e .label) < parent .next
+
+-- the rules that hold of an element of a store, but for the order
+record Kept (cl : Clues) (es : List Element) (e : Element) : Type 0 where
+  labelled : GoodLabel (e .label)
+  child : Child cl es e
+  shut : Closed cl e
+
+-- an element that passes the test of its next number is closed
+closed-next : (cl : Clues) (e : Element) → T (closed cl e) → Closed cl e
+unfolding closed
+closed-next cl e t h =
+    let childless : Bool = eqb (length (cl (e .name))) 0 in
+    let deepest : Bool = eqb (length (e .label)) maxDepth in
+    let k = or-iff childless deepest .1 (⊎-map (eqb-alike _ 0 .1) (eqb-alike _ maxDepth .1) h) in
+    eqb-alike (e .next) 0 .0 (go (childless || deepest) (eqb (e .next) 0) t k)
+  where
+    go : (a b : Bool) → T (not a || b) → T a → T b
+    go true b t h = t
+    go false b t h = absurd h
+
+-- the element found for a label is one of the elements and has that label
+pub find-mem : (l : Label) (es : List Element) (p : Element) → find l es ≡ some p → p ∈ es × (p .label ≡ l)
+unfolding find
+find-mem l [] p e = absurd (Option·none-ne-some p e)
+find-mem l (x ∷ es) p e = go (same (x .label) l) (same? (x .label) l) e (find-mem l es p)
+  where
+    go : (c : Bool) → Tells (x .label ≡ l) c → cond c (some x) (find l es) ≡ some p → (find l es ≡ some p → p ∈ es × (p .label ≡ l)) →
+        p ∈ x ∷ es × (p .label ≡ l)
+    go true (passes h) e ih = let f : p ≡ x = cc in (here f, ap (λ (p : Element). p .label) f ∙ h)
+    go false h e ih = (there (ih e .0), ih e .1)
+
+-- a component leads to the name that it is tested for
+leads-led : (clue : List ℕ) (x name : ℕ) → T (leads clue x name) → led clue x ≡ some name
+unfolding leads elim?
+leads-led clue x name t = go (led clue x) t
+  where
+    go : (o : Option ℕ) → T (elim? o false (λ c. eqb c name)) → o ≡ some name
+    go none t = absurd t
+    go (some c) t = ap some (eqb-alike c name .0 t)
+
+-- a passed test leaves the rules after it
+pub test-rest : (b : Bool) (r : Rule) (o : Option Rule) → test b r o ≡ none → o ≡ none
+unfolding test
+test-rest true r o e = e
+test-rest false r o e = absurd (Option·some-ne-none r e)
+
+module _ (r : List ℕ) (laid : T (laidOut r)) where
+  -- the label of a record that is laid out as it must be is good
+  pub label-good : GoodLabel (readElement r .label)
+  unfolding laidOut readElement
+  label-good = subst GoodLabel (labelOf-take r (laid-depth r laid)) (labelOf-good (take labelSize r) laid)
+
+  -- and as long as the depth says
+  label-length : length (readElement r .label) ≡ getD r 0 0
+  unfolding laidOut readElement labelOf
+  label-length = length-take-le (getD r 0 0) (drop 1 r)
+      (omega (arith, laid-depth r laid, length-drop 1 r, length-take labelSize r, isLabel-iff (take labelSize r) .0 laid .sixteen))
+
+-- record 0 of a sound store is the root's, has a name and keeps the rule of the next number
+first-kept : (cl : Clues) (r : List ℕ) → broken cl [] r ≡ none →
+    (readElement r .label ≡ []) × (readElement r .name ≤ maxName) × Closed cl (readElement r)
+unfolding broken isName
+first-kept cl r e =
+    let (laid, flat) = and-iff (laidOut r) (eqb (getD r 0 0) 0) .0 (test-none _ _ _ e) in
+    let e′ = test-rest _ _ _ e in (
+      empty (readElement r .label) (label-length r laid ∙ eqb-alike _ 0 .0 flat),
+      leb→le _ maxName (test-none _ _ _ e′),
+      closed-next cl (readElement r) (test-none _ _ _ (test-rest _ _ _ e′)),
+    )
+  where
+    empty : (l : Label) → length l ≡ 0 → l ≡ []
+    empty [] h = refl
+    empty (x ∷ l) h = absurd (omega arith)
+
+-- a sound record after others keeps the rules
+next-kept : (cl : Clues) (previous : Element) (done : List Element) (r : List ℕ) → broken cl (previous ∷ done) r ≡ none →
+    T (ahead previous (readElement r)) × Kept cl (previous ∷ done) (readElement r)
+unfolding broken elim?
+next-kept cl previous done r e =
+    let (laid, deep) = and-iff (laidOut r) (ltb 0 (getD r 0 0)) .0 (test-none _ _ _ e) in
+    let e′ = test-rest _ _ _ e in
+    (test-none _ _ _ e′, go laid (ltb→lt 0 _ deep) (find (above (readElement r .label)) (previous ∷ done)) refl (test-rest _ _ _ e′))
+  where
+    x : Element
+    x = readElement r
+
+    go : T (laidOut r) → 0 < getD r 0 0 → (o : Option Element) → find (above (x .label)) (previous ∷ done) ≡ o →
+        elim? o (some parentRule) (λ p. test (leads (cl (p .name)) (last (x .label)) (x .name)) nameRule
+        (test (ltb (last (x .label)) (p .next)) lastRule (test (closed cl x) nextRule none))) ≡ none → Kept cl (previous ∷ done) x
+    go laid deep none f e = absurd (Option·some-ne-none _ e)
+    go laid deep (some p) f e =
+        let (stands, above) = find-mem _ (previous ∷ done) p f in
+        let deeper : 0 < length (x .label) = omega (arith, label-length r laid) in
+        let e′ = test-rest _ _ _ e in
+        record {
+          labelled = label-good r laid;
+          child = record {
+            deeper = deeper;
+            parent = p;
+            stands = stands;
+            earlier = subst (λ l. T (before l (x .label))) (sym above) (above-before (x .label) deeper);
+            rightAbove = above;
+            named = leads-led _ _ _ (test-none _ _ _ e);
+            below = ltb→lt _ _ (test-none _ _ _ e′);
+          };
+          shut = closed-next cl x (test-none _ _ _ (test-rest _ _ _ e′));
+        }
+
+-- the label of an element below a named one decodes to its name
+child-named : (cl : Clues) (root : ℕ) (es : List Element) (e : Element) (c : Child cl es e) →
+    nameAt cl root (c .parent .label) ≡ some (c .parent .name) → nameAt cl root (e .label) ≡ some (e .name)
+child-named cl root es e c h =
+    ap (nameAt cl root) (above-last (e .label) (c .deeper)) ∙
+    name-child cl root (above (e .label)) (last (e .label)) (c .parent .name) (ap (nameAt cl root) (sym (c .rightAbove)) ∙ h) ∙ c .named
+
+-- an element that keeps the rules among some elements keeps them among more
+kept-more : (cl : Clues) (es fs : List Element) (e : Element) → ((d : Element) → d ∈ es → d ∈ fs) → Kept cl es e → Kept cl fs e
+kept-more cl es fs e more k =
+    let c = k .child in
+    record {
+      labelled = k .labelled;
+      child = record {
+        deeper = c .deeper;
+        parent = c .parent;
+        stands = more (c .parent) (c .stands);
+        earlier = c .earlier;
+        rightAbove = c .rightAbove;
+        named = c .named;
+        below = c .below;
+      };
+      shut = k .shut;
+    }
+
+module _ (cl : Clues) (root : ℕ) (es : List Element) where
+  -- an element of the store whose label decodes to its name
+  record Named (e : Element) : Type 0 where
+    stands : e ∈ es
+    named : nameAt cl root (e .label) ≡ some (e .name)
+
+  -- the elements after one: in order, each with its name and under the rules
+  record Rest (previous : Element) (rest : List Element) : Type 0 where
+    ordered : Ascending ahead rest
+    later : (e : Element) → e ∈ rest → T (ahead previous e)
+    named : (e : Element) → e ∈ rest → nameAt cl root (e .label) ≡ some (e .name)
+    kept : (e : Element) → e ∈ rest → Kept cl es e
+
+  -- one element more after one
+  rest-cons : {previous e : Element} {rest : List Element} → T (ahead previous e) → Named e → Kept cl es e → Rest e rest → Rest previous (e ∷ rest)
+  rest-cons {previous} {e} {rest} k n h r = record {
+    ordered = one-more (r .later) (r .ordered);
+    later = for-cons (λ x. T (ahead previous x)) k (λ x m. before-order .chain (previous .label) (e .label) (x .label) k (r .later x m));
+    named = for-cons (λ x. nameAt cl root (x .label) ≡ some (x .name)) (n .named) (r .named);
+    kept = for-cons (Kept cl es) h (r .kept);
+  }
+
+  -- the elements of records without a fault, after elements that have their names
+  sound-rest : (rs : List (List ℕ)) (previous : Element) (done : List Element) → ((d : Element) → d ∈ previous ∷ done → Named d) →
+      ((e : Element) → e ∈ map readElement rs → e ∈ es) → fault cl (previous ∷ done) rs ≡ none → Rest previous (map readElement rs)
+  sound-rest [] previous done d m e =
+      record { ordered = none-left; later = λ x n. absurd (nowhere n); named = λ x n. absurd (nowhere n); kept = λ x n. absurd (nowhere n) }
+  sound-rest (r ∷ rs) previous done d m e =
+      let (b, e′) = fault-cons cl (previous ∷ done) r rs e in
+      let (k, h) = next-kept cl previous done r b in
+      let n : Named (readElement r) = record {
+        stands = m _ (here refl);
+        named = child-named cl root (previous ∷ done) (readElement r) (h .child) (d _ (h .child .stands) .named);
+      } in
+      rest-cons k n (kept-more cl (previous ∷ done) es (readElement r) (λ x s. d x s .stands) h)
+      (sound-rest rs (readElement r) (previous ∷ done) (for-cons Named n d) (λ x s. m x (there s)) e′)
+
+-- the root decodes to the root's name
+name-root : (cl : Clues) (root : ℕ) → nameAt cl root [] ≡ some root
+unfolding nameAt endOf decode last
+name-root cl root = refl
+
+-- the element of record 0
+abbrev element0 : List ℕ → Element
+element0 ws = readElement (take recordSize ws)
+
+-- a store without a fault
+module _ (cl : Clues) (n : ℕ) (ws : List ℕ) (sound : fault cl [] (records (suc n) ws) ≡ none) where
+  -- neither record 0 breaks a rule, nor one after it
+  both-sound : (broken cl [] (take recordSize ws) ≡ none) × (fault cl (element0 ws ∷ []) (records n (drop recordSize ws)) ≡ none)
+  unfolding records
+  both-sound = fault-cons cl [] (take recordSize ws) (records n (drop recordSize ws)) sound
+
+  -- record 0's label is the root's
+  pub sound-root : readElement (take recordSize ws) .label ≡ []
+  sound-root = first-kept cl (take recordSize ws) (both-sound .0) .0
+
+  -- and decodes to its name, which is the root's
+  root-named : nameAt cl (element0 ws .name) (element0 ws .label) ≡ some (element0 ws .name)
+  root-named = ap (nameAt cl (element0 ws .name)) sound-root ∙ name-root cl (element0 ws .name)
+
+  -- the elements after record 0 are in order, each with its name and under the rules
+  others : Rest cl (element0 ws .name) (elements (suc n) ws) (element0 ws) (elements n (drop recordSize ws))
+  unfolding elements records
+  others =
+      sound-rest cl (element0 ws .name) (elements (suc n) ws) (records n (drop recordSize ws)) (element0 ws) []
+      (for-cons (Named cl (element0 ws .name) (elements (suc n) ws)) (record { stands = here refl; named = root-named }) (λ d m. absurd (nowhere m)))
+      (λ e m. there m) (both-sound .1)
+
+  -- its labels are good and in order, and each decodes to its element's name
+  pub sound-elements : SoundElements cl (readElement (take recordSize ws) .name) (elements (suc n) ws)
+  unfolding elements records all
+  sound-elements = record {
+    rootIsName = first-kept cl (take recordSize ws) (both-sound .0) .1;
+    ordered = one-more (others .later) (others .ordered);
+    labelled = for-cons (λ e. GoodLabel (e .label)) (subst GoodLabel (sym sound-root) (record { shallow = omega arith; small = tt }))
+        (λ e m. others .kept e m .labelled);
+    named = for-cons (λ e. nameAt cl (element0 ws .name) (e .label) ≡ some (e .name)) root-named (others .named);
+  }
+
+  -- every element but the first stands below an earlier one, so that no other label is the root's
+  pub sound-parents : (e : Element) → e ∈ elements n (drop recordSize ws) → Child cl (elements (suc n) ws) e
+  sound-parents e m = others .kept e m .child
+
+  -- the next number of every element is 0 where nothing may stand below it
+  pub sound-closed : (e : Element) → e ∈ elements (suc n) ws → Closed cl e
+  unfolding elements records
+  sound-closed = for-cons (Closed cl) (first-kept cl (take recordSize ws) (both-sound .0) .2) (λ e m. others .kept e m .shut)
