@@ -32,14 +32,14 @@ passed : {b : Bool} → b ≡ true → T b
 passed e = subst T (sym e) tt
 
 -- a word over 65,534 is no component
-pub large-word : (x : ℕ) → maxComponent < x → isComponent x ≡ false
+pub large-word : (x : ℕ) → maxComponent < x → false ≡ isComponent x
 unfolding isComponent
-large-word x h = lt-leb x maxComponent h
+large-word x h = sym (lt-leb x maxComponent h)
 
 -- a word up to 65,534 is a component
-pub small-word : (x : ℕ) → x ≤ maxComponent → isComponent x ≡ true
+pub small-word : (x : ℕ) → x ≤ maxComponent → true ≡ isComponent x
 unfolding isComponent
-small-word x h = le-leb x maxComponent h
+small-word x h = sym (le-leb x maxComponent h)
 
 -- nothing is shared with the root's label
 shared-nil : (l : Label) → shared l [] ≡ 0

@@ -7,6 +7,7 @@ ghost use mathlib.Core.Bool.{true, _&&_};
 ghost use Prim.Native.Nat.{_≤_, _<_};
 ghost use mathlib.Core.List.{[]};
 ghost use lib.ListN.{length, take, drop};
+ghost use lib.Dec.{eqb};
 ghost use Rattle.labelling.specs.Basics.{all};
 ghost use Rattle.labelling.specs.Labels as model;
 ghost use Rattle.refusals.specs.Answers.{verdictOf};
@@ -64,32 +65,37 @@ pub enum Number {
     NoneLeft,
 }
 
-// Every word is a component.
+// 0 for a component, 1 for the largest word, which is none.
+fn too_large(word: u16) -> u16
+    ensures { λ m. ⌜ eqb m 0 ≡ model.isComponent word ⌝ }
+{
+    if Label::MAX_COMPONENT < word { 1 } else { 0 }
+}
+
+// Every word is a component. The words are gathered with no way out between them, so that the compiler takes several at once.
 fn all_components(s: &[u16]) -> bool
     ensures { λ r. ⌜ r ≡ all model.isComponent (now (s .entry)) ⌝ }
 {
+    let mut any: u16 = 0;
     let mut i: usize = 0;
     while i < s.len() {
-        if Label::MAX_COMPONENT < s[i] {
-            return false;
-        }
+        any |= too_large(s[i]);
         i += 1;
     }
-    true
+    any == 0
 }
 
-// Every word is 0.
-fn all_zero(s: &[u16]) -> bool
+// Every word is 0; gathered likewise.
+pub fn all_zero(s: &[u16]) -> bool
     ensures { λ r. ⌜ r ≡ all isZero (now (s .entry)) ⌝ }
 {
+    let mut any: u16 = 0;
     let mut i: usize = 0;
     while i < s.len() {
-        if s[i] != 0 {
-            return false;
-        }
+        any |= s[i];
         i += 1;
     }
-    true
+    any == 0
 }
 
 // The d words after the first.

@@ -1,6 +1,6 @@
--- The layout of a record: its depth, then word after word.
+-- The layout of a record: its depth, then the words of its label.
 use Prim.Native.Nat.{ℕ, zero, suc, _+_, _*_, _<_, _≤_}
-use mathlib.Core.Path.{_≡_, refl, sym, ap, subst, _∙_}
+use mathlib.Core.Path.{_≡_, sym, subst, _∙_}
 use mathlib.Core.Bool.{Bool, true, false, not}
 use mathlib.Core.List.{List}
 use native.Mathlib.Omega.{arith}
@@ -11,13 +11,13 @@ use native.Mathlib.Decide.{decLt}
 use lib.Dec.{T, eqb, leb, ltb, leb→le}
 use borrow.Author.Tests.{eq-eqb, ne-eqb, le-leb, lt-leb, leb-true, eqb-true, not-true, not-false}
 use Rattle.labelling.specs.Limits.{maxComponent, maxDepth, labelSize, recordSize}
-use Rattle.labelling.specs.Labels.{isComponent}
 use Rattle.storage.specs.Store.{laidOut}
 use Rattle.labelling.proofs.Tests.{is-true, is-false, and-iff}
 use Rattle.labelling.proofs.LabelWords.{IsLabel, isLabel-iff}
 use Rattle.records.specs.Records.{recordAt}
 use Rattle.records.proofs.Parts.{record-word, record-depth}
-use Rattle.soundness.specs.Rules.{Laid, depthFits, wordFits}
+use Rattle.soundness.specs.Rules.{Laid, depthFits, wordFits, wordsFit}
+use Rattle.soundness.proofs.Words.{word-used, word-unused, words-each, words-all}
 
 -- a depth by its record's number
 module _ (r depth : ℕ) where
@@ -37,18 +37,6 @@ module _ (r depth : ℕ) where
     unfolding depthFits
     depth-below e = rw (le-leb depth maxDepth h, ne-eqb r 0 e)
 
--- a word by its place
-module _ (depth w x : ℕ) where
-  -- a used component
-  pub word-used : w ≤ depth → leb x maxComponent ≡ wordFits depth w x
-  unfolding wordFits isComponent
-  word-used h = rw (le-leb w depth h)
-
-  -- an unused one
-  pub word-unused : depth < w → eqb x 0 ≡ wordFits depth w x
-  unfolding wordFits
-  word-unused h = rw (lt-leb w depth h)
-
 -- a depth that fits is at most 15
 pub fitting-depth : (r depth : ℕ) → depthFits r depth ≡ true → depth ≤ maxDepth
 unfolding depthFits
@@ -62,20 +50,19 @@ found-fits r depth {b} is e = sym is ∙ not-false b e
 pub found-depth : (r depth : ℕ) {b : Bool} → b ≡ depthFits r depth → not b ≡ false → depth ≤ maxDepth
 found-depth r depth is e = fitting-depth r depth (found-fits r depth is e)
 
--- words 1 to w of record r fit its depth
+-- the first w words of record r fit its depth
 pub record Fitting (ws : List ℕ) (r w : ℕ) : Type 0 where
-  pub fit : (i : ℕ) → 0 < i → i < w → wordFits (getD ws (r * recordSize) 0) i (getD ws (r * recordSize + i) 0) ≡ true
+  pub fit : (i : ℕ) → i < w → wordFits (getD ws (r * recordSize) 0) i (getD ws (r * recordSize + i) 0) ≡ true
 
 module _ (ws : List ℕ) (r : ℕ) where
   -- no word was read
-  pub fit-start : Fitting ws r 1
-  fit-start = record { fit = λ i a b. absurd (omega arith) }
+  pub fit-start : Fitting ws r 0
+  fit-start = record { fit = λ i h. absurd (omega arith) }
 
-  -- one more word fits
-  pub fit-on : {w : ℕ} {b : Bool} → Fitting ws r w → b ≡ wordFits (getD ws (r * recordSize) 0) w (getD ws (r * recordSize + w) 0) → not b ≡ false →
-      Fitting ws r (w + 1)
-  fit-on {w} {b} f is e = record {
-    fit = λ i low high. by-cases (decLt i w) (f .fit i low) (λ n. let at : i ≡ w = omega arith in rw at (sym is ∙ not-false b e));
+  -- n more words fit
+  pub fit-on : {w : ℕ} (n : ℕ) {b : Bool} → Fitting ws r w → b ≡ wordsFit ws (r * recordSize) (getD ws (r * recordSize) 0) w n → not b ≡ false → Fitting ws r (w + n)
+  fit-on {w} n {b} f is e = record {
+    fit = λ i h. by-cases (decLt i w) (f .fit i) (λ l. words-each ws _ _ w n (sym is ∙ not-false b e) i (omega arith) h);
   }
 
   module _ (room : r * recordSize + recordSize ≤ length ws) where
@@ -102,27 +89,24 @@ module _ (ws : List ℕ) (r : ℕ) where
       used = λ i h.
           let d : i < getD ws (r * recordSize) 0 = omega (arith, label-depth) in
           subst (λ x. x ≤ maxComponent) (sym (label-word (suc i) (omega arith)))
-          (leb-true _ maxComponent (word-used _ (suc i) _ (omega arith) ∙ f .fit (suc i) (omega arith) (omega arith)));
-      unused = λ i h k. label-word i k ∙ eqb-true _ 0 (word-unused _ i _ (omega (arith, label-depth)) ∙ f .fit i (omega arith) (omega arith));
+          (leb-true _ maxComponent (word-used _ (suc i) _ (omega arith) ∙ f .fit (suc i) (omega arith)));
+      unused = λ i h k. label-word i k ∙ eqb-true _ 0 (word-unused _ i _ (omega (arith, label-depth)) ∙ f .fit i (omega arith));
     }))
 
-    -- one does not: it is not
-    pub fit-bad : (w : ℕ) {b : Bool} → 0 < w → w < labelSize → b ≡ wordFits (getD ws (r * recordSize) 0) w (getD ws (r * recordSize + w) 0) → not b ≡ true →
+    -- some do not: it is not
+    pub fit-bad : (w n : ℕ) {b : Bool} → w + n ≤ labelSize → b ≡ wordsFit ws (r * recordSize) (getD ws (r * recordSize) 0) w n → not b ≡ true →
         laidOut (recordAt r ws) ≡ false
     unfolding laidOut label
-    fit-bad w {b} low high is e = is-false _ (λ t. subst T (sym is ∙ not-true b e) (subst T (sym (fits (isLabel-iff label .0 t))) tt))
+    fit-bad w n {b} high is e = is-false _ (λ t. subst T (sym is ∙ not-true b e) (subst T (sym (words-all ws _ _ w n (λ i low h. fits (isLabel-iff label .0 t) i (omega arith)))) tt))
       where
-        last-of : (w : ℕ) → 0 < w → (v : ℕ) × (w ≡ suc v)
-        last-of zero h = absurd (omega arith)
-        last-of (suc v) h = (v, refl)
+        small : IsLabel label → (i : ℕ) → i < labelSize → i ≤ getD ws (r * recordSize) 0 → getD label i 0 ≤ maxComponent
+        small l zero k h = omega (arith, l .depth)
+        small l (suc i) k h = l .used i (omega (arith, label-depth))
 
-        small : IsLabel label → (getD ws (r * recordSize) 0 < w → ⊥) → (v : ℕ) × (w ≡ suc v) → getD ws (r * recordSize + w) 0 ≤ maxComponent
-        small l h (v, at) = subst (λ x. x ≤ maxComponent) (ap (λ w. getD label w 0) (sym at) ∙ label-word w high) (l .used v (omega (arith, label-depth)))
-
-        fits : IsLabel label → wordFits (getD ws (r * recordSize) 0) w (getD ws (r * recordSize + w) 0) ≡ true
-        fits l = by-cases (decLt (getD ws (r * recordSize) 0) w)
-            (λ h. sym (word-unused _ w _ h) ∙ eq-eqb _ 0 (sym (label-word w high) ∙ l .unused w (omega (arith, label-depth)) high))
-            (λ h. sym (word-used _ w _ (omega arith)) ∙ le-leb _ maxComponent (small l h (last-of w low)))
+        fits : IsLabel label → (i : ℕ) → i < labelSize → wordFits (getD ws (r * recordSize) 0) i (getD ws (r * recordSize + i) 0) ≡ true
+        fits l i k = by-cases (decLt (getD ws (r * recordSize) 0) i)
+            (λ h. sym (word-unused _ i _ h) ∙ eq-eqb _ 0 (sym (label-word i k) ∙ l .unused i (omega (arith, label-depth)) k))
+            (λ h. sym (word-used _ i _ (omega arith)) ∙ le-leb _ maxComponent (subst (λ x. x ≤ maxComponent) (label-word i k) (small l i k (omega arith))))
 
     -- the record is laid out, and has a depth that fits it
     pub fit-laid : {w : ℕ} → Fitting ws r w → labelSize ≤ w → depthFits r (getD ws (r * recordSize) 0) ≡ true → Laid ws r

@@ -19,12 +19,14 @@ ghost use mathlib.Core.Path.{_≡_};
 ghost use mathlib.Core.List.{[]};
 ghost use Prim.Native.Nat.{_+_, _*_, _<_, _≤_};
 ghost use lib.ListN.{length, getD};
+ghost use lib.Dec.{eqb};
+ghost use Rattle.labelling.specs.Limits.{maxDepth, labelSize};
 ghost use Rattle.labelling.specs.Names.{cluesOf};
 ghost use Rattle.storage.specs.Store as model;
 ghost use Rattle.names.specs.Answers.{lensOf};
 ghost use Rattle.refusals.specs.Answers.{verdictOf};
 ghost use Rattle.records.specs.Records.{recordAt};
-ghost use Rattle.soundness.specs.Rules.{Ready, closedBy, depthFits, wordFits, brokenRoot, brokenBelow, brokenAt, storeCheck};
+ghost use Rattle.soundness.specs.Rules.{Ready, closedBy, depthFits, wordFits, largestWords, wordsFit, brokenRoot, brokenBelow, brokenAt, storeCheck};
 ghost use Rattle.soundness.specs.Answers.{Numbered, checkOf, soundnessOf};
 
 // The rules of a sound record, in order.
@@ -76,14 +78,70 @@ fn depth_fits(r: usize, depth: usize) -> bool
     0 < depth
 }
 
-// A used component is at most 65,534, an unused one 0.
-fn word_fits(depth: usize, w: usize, word: u16) -> bool
-    ensures { λ b. ⌜ b ≡ wordFits depth w word ⌝ }
+// The words of a label that are tested together: one half.
+const HALF: usize = 8;
+
+// The largest that each word of a label may be, from place 15 - depth on: 65,534 for a used component, 0 for an unused one.
+const LARGEST: [u16; 32] = [
+    Label::MAX_COMPONENT,
+    Label::MAX_COMPONENT,
+    Label::MAX_COMPONENT,
+    Label::MAX_COMPONENT,
+    Label::MAX_COMPONENT,
+    Label::MAX_COMPONENT,
+    Label::MAX_COMPONENT,
+    Label::MAX_COMPONENT,
+    Label::MAX_COMPONENT,
+    Label::MAX_COMPONENT,
+    Label::MAX_COMPONENT,
+    Label::MAX_COMPONENT,
+    Label::MAX_COMPONENT,
+    Label::MAX_COMPONENT,
+    Label::MAX_COMPONENT,
+    Label::MAX_COMPONENT,
+    0,
+    0,
+    0,
+    0,
+    0,
+    0,
+    0,
+    0,
+    0,
+    0,
+    0,
+    0,
+    0,
+    0,
+    0,
+    0,
+];
+
+// 0 where word w of a label fits its depth, 1 where it is too large.
+fn misfit(largest: &[u16; 32], depth: usize, w: usize, word: u16) -> u16
+    requires { ⌜ (now largest ≡ largestWords) × (depth ≤ maxDepth) × (w < labelSize) ⌝ }
+    ensures { λ m. ⌜ eqb m 0 ≡ wordFits depth w word ⌝ }
 {
-    if w <= depth {
-        return word <= Label::MAX_COMPONENT;
+    if largest[w + Label::MAX_DEPTH - depth] < word {
+        1
+    } else {
+        0
     }
-    word == 0
+}
+
+// Half a label, from word w on, fits its depth: its words are gathered with no way out between them, so that the compiler takes them at once.
+fn half_fits(largest: &[u16; 32], store: &[u16], at: usize, depth: usize, w: usize) -> bool
+    requires { ⌜ (now largest ≡ largestWords) × (at + labelSize ≤ length (now store)) × (depth ≤ maxDepth) × (w + 8 ≤ labelSize) ⌝ }
+    ensures { λ b. ⌜ b ≡ wordsFit (now (store .entry)) at depth w 8 ⌝ }
+{
+    let mut any: u16 = 0;
+    let mut k: usize = 0;
+    while k < HALF {
+        let i = w + k;
+        any |= misfit(largest, depth, i, store[at + i]);
+        k += 1;
+    }
+    any == 0
 }
 
 // A next number is 0 if the clue is empty or the depth is 15.
@@ -177,6 +235,8 @@ fn first_fault(table: &Table, lens: &[usize], store: &[u16], count: usize) -> So
     ensures { λ k. ⌜ k ≡ soundnessOf (model.fault (cluesOf (now (table .entry))) [] (model.records count (now (store .entry)))) ⌝ }
 {
     let mut found = Soundness::Sound;
+    // Read once: a constant array is made anew wherever it is read.
+    let largest = LARGEST;
     // The record that an element of each depth would stand below.
     let mut parents = [0usize; 17];
     let mut r: usize = 0;
@@ -187,13 +247,13 @@ fn first_fault(table: &Table, lens: &[usize], store: &[u16], count: usize) -> So
             found = Soundness::Broken(Rule::Layout, r);
             break 'records;
         }
-        let mut w: usize = 1;
+        let mut w: usize = 0;
         while w < Label::WORDS {
-            if !word_fits(depth, w, store[at + w]) {
+            if !half_fits(&largest, store, at, depth, w) {
                 found = Soundness::Broken(Rule::Layout, r);
                 break 'records;
             }
-            w += 1;
+            w += HALF;
         }
         let check = record_rules(table, lens, store, r, parents[depth]);
         if let Check::Broken(rule) = check {

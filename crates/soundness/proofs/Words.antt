@@ -1,0 +1,88 @@
+-- The words of a label: each by its place, by the largest that it may be, and several together.
+use Prim.Native.Nat.{ℕ, zero, suc, _+_, _-_, _<_, _≤_}
+use mathlib.Core.Path.{_≡_, refl, sym, subst, _∙_}
+use mathlib.Core.Bool.{true, false, _&&_}
+use mathlib.Core.List.{List}
+use mathlib.Core.Logic.{by-cases}
+use native.Mathlib.Decide.{decLt}
+use native.Mathlib.Numerals.{add-one}
+use native.Mathlib.Omega.{arith}
+use lib.Bits.{bitOr}
+use lib.ListN.{getD, getD-replicate}
+use lib.Seq.{getD-take, getD-drop}
+use lib.Dec.{T, eqb, leb}
+use borrow.Author.Tests.{eq-eqb, ne-eqb, le-leb, lt-leb}
+use Rattle.labelling.specs.Limits.{maxComponent, maxDepth, labelSize}
+use Rattle.labelling.specs.Labels.{isComponent}
+use Rattle.labelling.proofs.Tests.{is-true, and-iff, or-zero}
+use Rattle.soundness.specs.Rules.{wordFits, largestWords, wordsFit}
+
+-- a word by its place
+module _ (depth w x : ℕ) where
+  -- a used component
+  pub word-used : w ≤ depth → leb x maxComponent ≡ wordFits depth w x
+  unfolding wordFits isComponent
+  word-used h = rw (le-leb w depth h)
+
+  -- an unused one
+  pub word-unused : depth < w → eqb x 0 ≡ wordFits depth w x
+  unfolding wordFits
+  word-unused h = rw (lt-leb w depth h)
+
+-- ---- by the largest that it may be
+
+module _ {largest : List ℕ} (told : largest ≡ largestWords) (depth w x : ℕ) (deep : depth ≤ maxDepth) (low : w < labelSize) where
+  -- the largest that a used component may be
+  used-entry : w ≤ depth → getD largest (w + maxDepth - depth) 0 ≡ maxComponent
+  used-entry h =
+      rw told (sym (getD-take labelSize largestWords (w + maxDepth - depth) 0 (omega arith)) ∙ getD-replicate labelSize (w + maxDepth - depth) maxComponent 0 (omega arith))
+
+  -- the largest that an unused one may be
+  unused-entry : depth < w → getD largest (w + maxDepth - depth) 0 ≡ 0
+  unused-entry h =
+      let behind : w + maxDepth - depth ≡ labelSize + (w - suc depth) = omega arith in
+      rw (told, behind) (sym (getD-drop labelSize largestWords (w - suc depth) 0) ∙ getD-replicate labelSize (w - suc depth) 0 0 (omega arith))
+
+  -- a larger word does not fit
+  pub word-over : getD largest (w + maxDepth - depth) 0 < x → false ≡ wordFits depth w x
+  word-over h = by-cases (decLt depth w)
+      (λ l. sym (ne-eqb x 0 (λ e. omega arith)) ∙ word-unused depth w x l)
+      (λ l. let used : w ≤ depth = omega arith in sym (lt-leb x maxComponent (omega (arith, used-entry used))) ∙ word-used depth w x used)
+
+  -- any other fits
+  pub word-within : x ≤ getD largest (w + maxDepth - depth) 0 → true ≡ wordFits depth w x
+  word-within h = by-cases (decLt depth w)
+      (λ l. sym (eq-eqb x 0 (omega (arith, unused-entry l))) ∙ word-unused depth w x l)
+      (λ l. let used : w ≤ depth = omega arith in sym (le-leb x maxComponent (omega (arith, used-entry used))) ∙ word-used depth w x used)
+
+-- ---- several together
+
+module _ (ws : List ℕ) (at depth w : ℕ) where
+  -- none was read
+  pub words-start : true ≡ wordsFit ws at depth w 0
+  unfolding wordsFit
+  words-start = refl
+
+  module _ (any k : ℕ) (inv : eqb any 0 ≡ wordsFit ws at depth w k) where
+    -- one more
+    pub words-on : (m : ℕ) → eqb m 0 ≡ wordFits depth (w + k) (getD ws (at + (w + k)) 0) → eqb (bitOr any m) 0 ≡ wordsFit ws at depth w (k + 1)
+    unfolding wordsFit
+    words-on m is = rw (or-zero, inv, is, add-one)
+
+    -- at the end all are told
+    pub words-end : (n : ℕ) → k ≤ n → n ≤ k → eqb any 0 ≡ wordsFit ws at depth w n
+    words-end n low high = let all : n ≡ k = omega arith in rw all inv
+
+  -- where they fit, each of them does
+  pub words-each : (n : ℕ) → wordsFit ws at depth w n ≡ true → (i : ℕ) → w ≤ i → i < w + n → wordFits depth i (getD ws (at + i) 0) ≡ true
+  unfolding wordsFit
+  words-each zero e i low high = absurd (omega arith)
+  words-each (suc n) e i low high =
+      let (before, last) = and-iff (wordsFit ws at depth w n) _ .0 (subst T (sym e) tt) in
+      by-cases (decLt i (w + n)) (words-each n (is-true _ before) i low) (λ l. let here : i ≡ w + n = omega arith in rw here (is-true _ last))
+
+  -- where each does, they fit
+  pub words-all : (n : ℕ) → ((i : ℕ) → w ≤ i → i < w + n → wordFits depth i (getD ws (at + i) 0) ≡ true) → wordsFit ws at depth w n ≡ true
+  unfolding wordsFit
+  words-all zero f = refl
+  words-all (suc n) f = rw (words-all n (λ i low high. f i low (omega arith)), f (w + n) (omega arith) (omega arith))

@@ -1,0 +1,16 @@
+-- `soundness::misfit` meets its contract: a word that is too large, or one that is not.
+use borrow.Author.Needs.{needs}
+use Rattle.soundness.proofs.Words.{word-over, word-within}
+use Rattle.soundness.proofs.misfit.Statement.{statement}
+use Rattle.soundness.proofs.misfit.Tie as tie
+
+pub misfit-spec : {M : Type 1} → statement M
+misfit-spec =
+    tie.close
+    (tie.spec
+    (λ c. search needs)
+    (λ c. search needs)
+    (λ c. search needs)
+    (λ c. search needs)
+    (λ c. search (word-over, needs))
+    (λ c. search (word-within, needs)))
