@@ -9,10 +9,10 @@ use refusals::Verdict;
 use refusals::refuse;
 use soundness::store_check;
 use twigs::is_asked;
-use words::overwrite;
+use words::put_label;
 ghost use mathlib.Core.Path.{_≡_};
 ghost use Prim.Native.Nat.{_+_, _*_, _≤_};
-ghost use lib.ListN.{length, take};
+ghost use lib.ListN.{length};
 ghost use Rattle.labelling.specs.Basics.{over};
 ghost use Rattle.labelling.specs.Limits.{labelSize, recordSize};
 ghost use Rattle.patterns.specs.Matches.{labelsWords};
@@ -21,7 +21,7 @@ ghost use Rattle.storage.specs.Store.{readElement, elements};
 ghost use Rattle.storage.specs.Cutting as model;
 ghost use Rattle.refusals.specs.Answers.{filled, listingOf};
 ghost use Rattle.records.specs.Records.{recordAt};
-ghost use Rattle.cutting.specs.Words.{Laid, labelPut};
+ghost use Rattle.cutting.specs.Words.{Laid};
 
 // Record r has a name that is asked for.
 fn is_taken(store: &[u16], r: usize, want: u8) -> bool
@@ -47,18 +47,6 @@ fn stream_len(store: &[u16], count: usize, want: u8) -> usize
     n
 }
 
-// The label of record r, written to label number `at` of an output.
-fn copy_label(store: &[u16], r: usize, out: &mut [u16], at: usize)
-    requires { ⌜ (r * 20 + 20 ≤ length (now store)) × (labelSize * (at + 1) ≤ length (now out)) ⌝ }
-    ensures { λ u. ⌜ now (out .exit) ≡ labelPut (now (out .entry)) at (take labelSize (recordAt r (now (store .entry)))) ⌝ }
-{
-    let from = r * Store::RECORD_WORDS;
-    overwrite(
-        &mut out[Label::WORDS * at..],
-        &store[from..from + Label::WORDS],
-    );
-}
-
 // The stream, written from the start of an output that holds it.
 fn write_stream(store: &[u16], count: usize, want: u8, out: &mut [u16])
     requires { ⌜ (recordSize * count ≤ length (now store)) × Laid count (now store) × (labelSize * length (model.stream want (elements count (now store))) ≤ length (now out)) ⌝ }
@@ -68,7 +56,7 @@ fn write_stream(store: &[u16], count: usize, want: u8, out: &mut [u16])
     let mut r: usize = 0;
     while r < count {
         if is_taken(store, r, want) {
-            copy_label(store, r, out, at);
+            put_label(store, r * Store::RECORD_WORDS, out, Label::WORDS * at);
             at += 1;
         }
         r += 1;

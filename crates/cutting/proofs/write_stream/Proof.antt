@@ -40,6 +40,8 @@ write-stream-spec =
     μ-loop
     (λ c. search (written-from, needs))
     (λ c κs. search needs)
+    (λ c. search needs)
+    (λ c. search needs)
     (λ c κs. search (write-room, needs))
     (λ c. search needs)
     (λ c. search needs)
