@@ -1,3 +1,4 @@
 pub mod Reading
 pub mod Answers
 pub mod Rows
+pub mod Bytes

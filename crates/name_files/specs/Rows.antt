@@ -1,7 +1,9 @@
 -- A table as its bytes: rows that stand one after the other.
 use Prim.Native.Nat.{ℕ, _*_}
+use mathlib.Core.Bool.{cond}
 use mathlib.Core.List.{List, map}
-use lib.ListN.{take, drop}
+use lib.ListN.{length, take, drop, replicate}
+use lib.Dec.{eqb}
 use Rattle.labelling.specs.Basics.{upTo}
 use Rattle.labelling.specs.Limits.{tableSize}
 
@@ -12,3 +14,11 @@ rowIn bytes p = take tableSize (drop (p * tableSize) bytes)
 -- the rows of a table's bytes
 unfoldable pub rowsIn : List ℕ → List (List ℕ)
 rowsIn bytes = map (rowIn bytes) (upTo tableSize)
+
+-- a table that 22 rules out: no name has its number
+abbrev pub tornRows : List (List ℕ)
+tornRows = replicate tableSize (replicate tableSize 64)
+
+-- the table that bytes are: bytes of another length are a table that 22 rules out
+unfoldable pub tableIn : List ℕ → List (List ℕ)
+tableIn bytes = cond (eqb (length bytes) (tableSize * tableSize)) (rowsIn bytes) tornRows

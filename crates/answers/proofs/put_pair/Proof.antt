@@ -1,0 +1,17 @@
+-- `answers::put_pair` meets its contract: no room, room for one number, room for both.
+use borrow.Author.Needs.{needs}
+use Rattle.answers.proofs.Fits.{pair-none, pair-one, pair-both}
+use Rattle.answers.proofs.put_pair.Statement.{statement}
+use Rattle.answers.proofs.put_pair.Tie as tie
+
+pub put-pair-spec : {M : Type 1} → statement M
+put-pair-spec =
+    tie.close
+    (tie.spec
+    (λ c. search (pair-none, needs))
+    (λ c. search needs)
+    (λ c. search needs)
+    (λ c. search (pair-one, needs))
+    (λ c. search needs)
+    (λ c. search needs)
+    (λ c. search (pair-both, needs)))
