@@ -24,7 +24,7 @@ pub fn sized(words: usize, count: usize) -> Store {
 }
 
 // What a call answered, its count, and whether words are as they were.
-fn outcome(v: Verdict, count: usize, words: &[u16], was: &[u16]) {
+pub fn outcome(v: Verdict, count: usize, words: &[u16], was: &[u16]) {
     verdict(v);
     say(b", count ");
     number(count);

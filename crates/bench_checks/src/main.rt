@@ -1,4 +1,4 @@
-// The paper's checks of names, labels and stores, run and printed.
+// The paper's checks of names, labels, stores and matching, run and printed.
 mod among;
 mod calls;
 mod elements;
@@ -6,6 +6,7 @@ mod files;
 mod given;
 mod label_words;
 mod limits;
+mod matchings;
 mod pair;
 mod refused;
 mod room;
@@ -25,6 +26,7 @@ use label_words::labels;
 use label_words::order;
 use limits::depths;
 use limits::largest;
+use matchings::matchings;
 use pair::pair;
 use refused::cuttings;
 use refused::deletions;
@@ -48,6 +50,7 @@ fn store_checks() {
     cuttings();
     rules();
     streams();
+    matchings();
 }
 
 fn main() {

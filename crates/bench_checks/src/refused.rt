@@ -47,7 +47,7 @@ const HUGE: usize = 9223372036854775808;
 const OLD: u16 = 9;
 
 // The bench's table with an entry that is no name.
-fn bad_table() -> Table {
+pub fn bad_table() -> Table {
     let mut t = bench_table();
     t[0][0] = 64;
     t
