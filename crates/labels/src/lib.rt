@@ -3,11 +3,11 @@ use refusals::Refusal;
 use refusals::Verdict;
 use refusals::refuse;
 ghost use mathlib.Core.Path.{_≡_};
+ghost use mathlib.Core.Logic.{_⊎_};
 ghost use mathlib.Core.Bool.{true, _&&_};
 ghost use Prim.Native.Nat.{_≤_, _<_};
 ghost use mathlib.Core.List.{[]};
 ghost use lib.ListN.{length, take, drop};
-ghost use lib.Dec.{eqb};
 ghost use Rattle.labelling.specs.Basics.{all};
 ghost use Rattle.labelling.specs.Labels as model;
 ghost use Rattle.refusals.specs.Answers.{verdictOf};
@@ -65,27 +65,21 @@ pub enum Number {
     NoneLeft,
 }
 
-// 0 for a component, 1 for the largest word, which is none.
-fn too_large(word: u16) -> u16
-    ensures { λ m. ⌜ eqb m 0 ≡ model.isComponent word ⌝ }
-{
-    if Label::MAX_COMPONENT < word { 1 } else { 0 }
-}
-
-// Every word is a component. The words are gathered with no way out between them, so that the compiler takes several at once.
+// Every word is a component.
 fn all_components(s: &[u16]) -> bool
     ensures { λ r. ⌜ r ≡ all model.isComponent (now (s .entry)) ⌝ }
 {
-    let mut any: u16 = 0;
     let mut i: usize = 0;
     while i < s.len() {
-        any |= too_large(s[i]);
+        if Label::MAX_COMPONENT < s[i] {
+            return false;
+        }
         i += 1;
     }
-    any == 0
+    true
 }
 
-// Every word is 0; gathered likewise.
+// Every word is 0. The words are gathered with no way out between them, so that the compiler takes several at once.
 pub fn all_zero(s: &[u16]) -> bool
     ensures { λ r. ⌜ r ≡ all isZero (now (s .entry)) ⌝ }
 {
@@ -142,15 +136,20 @@ pub fn components(words: &[u16]) -> &[u16]
     after_first(words, words[0] as usize)
 }
 
+// The lesser of two numbers.
+fn lesser(m: usize, n: usize) -> usize
+    ensures { λ r. ⌜ (r ≤ m) × (r ≤ n) × ((r ≡ m) ⊎ (r ≡ n)) ⌝ }
+{
+    if m < n { m } else { n }
+}
+
 // How many leading components two labels share.
 pub fn shared(a: &[u16], b: &[u16]) -> usize
     ensures { λ r. ⌜ r ≡ model.shared (now (a .entry)) (now (b .entry)) ⌝ }
 {
+    let n = lesser(a.len(), b.len());
     let mut i: usize = 0;
-    while i < a.len() {
-        if b.len() <= i {
-            return i;
-        }
+    while i < n {
         if a[i] != b[i] {
             return i;
         }

@@ -7,7 +7,7 @@ use lib.Dec.{eqb}
 use lib.ListN.{length, drop}
 use Rattle.labelling.specs.Basics.{all}
 use Rattle.labels.specs.Answers.{isZero}
-use Rattle.labelling.proofs.Scans.{zeros-on, gathered-end}
+use Rattle.labelling.proofs.Scans.{zeros-on, zeros-end}
 use Rattle.labels.proofs.all_zero.Statement.{statement}
 use Rattle.labels.proofs.all_zero.Tie as tie
 
@@ -29,4 +29,4 @@ all-zero-spec =
     (λ c. search needs)
     (λ c. search needs)
     (λ c. search (zeros-on, needs))
-    (λ c. search (gathered-end isZero, needs)))
+    (λ c. search (zeros-end, needs)))
