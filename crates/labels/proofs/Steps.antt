@@ -1,7 +1,7 @@
 -- What each way out of the code on labels tells of the definitions: words read from an index on, then the calls.
 use Prim.Native.Nat.{ℕ, _+_, _-_, _<_, _≤_}
 use mathlib.Core.Path.{_≡_, refl, sym, ap, ap₂, subst, _∙_}
-use mathlib.Core.Logic.{_⊎_, inl, inr, Iff·symm}
+use mathlib.Core.Logic.{Iff·symm}
 use mathlib.Core.List.{List, [], _∷_}
 use mathlib.Core.Bool.{Bool, true, false, not, _&&_}
 use native.Mathlib.Omega.{arith}
@@ -49,23 +49,26 @@ shared-nil (x ∷ l) = refl
 
 -- shared components, from i on
 module _ (a b : Label) (i : ℕ) (inv : shared a b ≡ i + shared (drop i a) (drop i b)) where
-  -- one of the labels has no more
-  pub shared-end : {n : ℕ} → (n ≡ length a) ⊎ (n ≡ length b) → n ≤ i → i ≡ shared a b
+  -- the first label has no more
+  pub shared-end : length a ≤ i → i ≡ shared a b
   unfolding shared
-  shared-end (inl e) h = rw (inv, drop-of-length-le a {i = i} (omega arith)) (omega arith)
-  shared-end (inr e) h = rw (inv, drop-of-length-le b {i = i} (omega arith), shared-nil) (omega arith)
+  shared-end h = rw (inv, drop-of-length-le a h) (omega arith)
 
-  -- both have more
-  module _ {n : ℕ} (h : i < n) (p : n ≤ length a) (q : n ≤ length b) where
-    -- the labels part
-    pub shared-differ : (getD a i 0 ≡ getD b i 0 → ⊥) → i ≡ shared a b
-    unfolding shared
-    shared-differ e = rw (inv, from-cons a i 0 (omega arith), from-cons b i 0 (omega arith), ne-eqb _ _ e) (omega arith)
+  module _ (h : i < length a) where
+    -- the second label has no more
+    pub shared-short : length b ≤ i → i ≡ shared a b
+    shared-short k = rw (inv, drop-of-length-le b k, shared-nil) (omega arith)
 
-    -- one more is shared
-    pub shared-on : getD a i 0 ≡ getD b i 0 → shared a b ≡ i + 1 + shared (drop (i + 1) a) (drop (i + 1) b)
-    unfolding shared
-    shared-on e = rw (inv, from-cons a i 0 (omega arith), from-cons b i 0 (omega arith), eq-eqb _ _ e) (omega arith)
+    module _ (k : i < length b) where
+      -- the labels part
+      pub shared-differ : (getD a i 0 ≡ getD b i 0 → ⊥) → i ≡ shared a b
+      unfolding shared
+      shared-differ e = rw (inv, from-cons a i 0 h, from-cons b i 0 k, ne-eqb _ _ e) (omega arith)
+
+      -- one more is shared
+      pub shared-on : getD a i 0 ≡ getD b i 0 → shared a b ≡ i + 1 + shared (drop (i + 1) a) (drop (i + 1) b)
+      unfolding shared
+      shared-on e = rw (inv, from-cons a i 0 h, from-cons b i 0 k, eq-eqb _ _ e) (omega arith)
 
 -- no label comes before the root's
 before-nil : (l : Label) → before l [] ≡ false

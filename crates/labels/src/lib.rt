@@ -3,7 +3,6 @@ use refusals::Refusal;
 use refusals::Verdict;
 use refusals::refuse;
 ghost use mathlib.Core.Path.{_≡_};
-ghost use mathlib.Core.Logic.{_⊎_};
 ghost use mathlib.Core.Bool.{true, _&&_};
 ghost use Prim.Native.Nat.{_≤_, _<_};
 ghost use mathlib.Core.List.{[]};
@@ -136,20 +135,15 @@ pub fn components(words: &[u16]) -> &[u16]
     after_first(words, words[0] as usize)
 }
 
-// The lesser of two numbers.
-fn lesser(m: usize, n: usize) -> usize
-    ensures { λ r. ⌜ (r ≤ m) × (r ≤ n) × ((r ≡ m) ⊎ (r ≡ n)) ⌝ }
-{
-    if m < n { m } else { n }
-}
-
 // How many leading components two labels share.
 pub fn shared(a: &[u16], b: &[u16]) -> usize
     ensures { λ r. ⌜ r ≡ model.shared (now (a .entry)) (now (b .entry)) ⌝ }
 {
-    let n = lesser(a.len(), b.len());
     let mut i: usize = 0;
-    while i < n {
+    while i < a.len() {
+        if b.len() <= i {
+            return i;
+        }
         if a[i] != b[i] {
             return i;
         }

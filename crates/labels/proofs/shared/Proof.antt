@@ -2,17 +2,17 @@
 use borrow.Author.Needs.{needs}
 use Prim.Native.Nat.{_≤_, _+_, _-_}
 use mathlib.Core.Path.{_≡_}
-use lib.ListN.{drop}
+use lib.ListN.{length, drop}
 use Rattle.labelling.specs.Labels.{shared}
-use Rattle.labels.proofs.Steps.{shared-end, shared-differ, shared-on}
+use Rattle.labels.proofs.Steps.{shared-end, shared-short, shared-differ, shared-on}
 use Rattle.labels.proofs.shared.Statement.{statement}
 use Rattle.labels.proofs.shared.Tie as tie
 
 abbrev Inv-loop : tie.InvT-loop
-Inv-loop a b n i₀ i = (i ≤ n) × (shared a b ≡ i + shared (drop i a) (drop i b))
+Inv-loop a b i₀ i = (i ≤ length a) × (shared a b ≡ i + shared (drop i a) (drop i b))
 
 abbrev μ-loop : tie.MeasureT-loop
-μ-loop a b n i₀ i = n - i
+μ-loop a b i₀ i = length a - i
 
 pub shared-spec : {M : Type 1} → statement M
 shared-spec =
@@ -20,8 +20,8 @@ shared-spec =
     (tie.spec
     Inv-loop
     μ-loop
-    (λ c κs. search needs)
     (λ c. search needs)
+    (λ c. search (shared-short, needs))
     (λ c. search needs)
     (λ c. search needs)
     (λ c. search needs)
