@@ -1,6 +1,6 @@
 -- The layout of a record: its depth, then the words of its label.
-use Prim.Native.Nat.{ℕ, zero, suc, _+_, _*_, _<_, _≤_}
-use mathlib.Core.Path.{_≡_, sym, subst, _∙_}
+use Prim.Native.Nat.{ℕ, _+_, _*_, _<_, _≤_}
+use mathlib.Core.Path.{_≡_, sym, ap₂, subst, _∙_}
 use mathlib.Core.Bool.{Bool, true, false, not}
 use mathlib.Core.List.{List}
 use native.Mathlib.Omega.{arith}
@@ -9,15 +9,16 @@ use lib.Seq.{getD-take, length-take-le}
 use mathlib.Core.Logic.{by-cases}
 use native.Mathlib.Decide.{decLt}
 use lib.Dec.{T, eqb, leb, ltb, leb→le}
-use borrow.Author.Tests.{eq-eqb, ne-eqb, le-leb, lt-leb, leb-true, eqb-true, not-true, not-false}
-use Rattle.labelling.specs.Limits.{maxComponent, maxDepth, labelSize, recordSize}
+use borrow.Author.Tests.{eq-eqb, ne-eqb, le-leb, lt-leb, not-true, not-false}
+use Rattle.labelling.specs.Limits.{maxDepth, labelSize, recordSize}
 use Rattle.storage.specs.Store.{laidOut}
 use Rattle.labelling.proofs.Tests.{is-true, is-false, and-iff}
-use Rattle.labelling.proofs.LabelWords.{IsLabel, isLabel-iff}
 use Rattle.records.specs.Records.{recordAt}
 use Rattle.records.proofs.Parts.{record-word, record-depth}
-use Rattle.soundness.specs.Rules.{Laid, depthFits, wordFits, wordsFit}
-use Rattle.soundness.proofs.Words.{word-used, word-unused, words-each, words-all}
+use Rattle.layouts.specs.Words.{wordFits, wordsFit}
+use Rattle.layouts.proofs.Words.{words-each, words-all}
+use Rattle.layouts.proofs.Fits.{fits-label, label-fits}
+use Rattle.soundness.specs.Rules.{Laid, depthFits}
 
 -- a depth by its record's number
 module _ (r depth : ℕ) where
@@ -80,33 +81,26 @@ module _ (ws : List ℕ) (r : ℕ) where
     unfolding label
     label-depth = getD-take labelSize (recordAt r ws) 0 0 (omega arith) ∙ record-depth ws r
 
+    -- it has sixteen
+    label-words : length label ≡ labelSize
+    unfolding label recordAt
+    label-words = length-take-le labelSize (recordAt r ws) (omega (arith, length-take-le recordSize (drop (r * recordSize) ws) (omega (arith, length-drop (r * recordSize) ws))))
+
+    -- a word of the label fits its depth as the word of the slice does
+    same-fit : (i : ℕ) → i < labelSize → wordFits (getD ws (r * recordSize) 0) i (getD ws (r * recordSize + i) 0) ≡ wordFits (getD label 0 0) i (getD label i 0)
+    same-fit i h = sym (ap₂ (λ d x. wordFits d i x) label-depth (label-word i h))
+
     -- all words fit: the record is laid out as it must be
     fit-end : {w : ℕ} → Fitting ws r w → labelSize ≤ w → getD ws (r * recordSize) 0 ≤ maxDepth → laidOut (recordAt r ws) ≡ true
-    unfolding laidOut recordAt label
-    fit-end {w} f high deep = is-true _ (isLabel-iff label .1 (record {
-      sixteen = length-take-le labelSize (recordAt r ws) (omega (arith, length-take-le recordSize (drop (r * recordSize) ws) (omega (arith, length-drop (r * recordSize) ws))));
-      depth = omega (arith, label-depth);
-      used = λ i h.
-          let d : i < getD ws (r * recordSize) 0 = omega (arith, label-depth) in
-          subst (λ x. x ≤ maxComponent) (sym (label-word (suc i) (omega arith)))
-          (leb-true _ maxComponent (word-used _ (suc i) _ (omega arith) ∙ f .fit (suc i) (omega arith)));
-      unused = λ i h k. label-word i k ∙ eqb-true _ 0 (word-unused _ i _ (omega (arith, label-depth)) ∙ f .fit i (omega arith));
-    }))
+    unfolding laidOut label
+    fit-end {w} f high deep = is-true _ (fits-label label label-words (omega (arith, label-depth)) (λ i h. sym (same-fit i h) ∙ f .fit i (omega arith)))
 
     -- some do not: it is not
     pub fit-bad : (w n : ℕ) {b : Bool} → w + n ≤ labelSize → b ≡ wordsFit ws (r * recordSize) (getD ws (r * recordSize) 0) w n → not b ≡ true →
         laidOut (recordAt r ws) ≡ false
     unfolding laidOut label
-    fit-bad w n {b} high is e = is-false _ (λ t. subst T (sym is ∙ not-true b e) (subst T (sym (words-all ws _ _ w n (λ i low h. fits (isLabel-iff label .0 t) i (omega arith)))) tt))
-      where
-        small : IsLabel label → (i : ℕ) → i < labelSize → i ≤ getD ws (r * recordSize) 0 → getD label i 0 ≤ maxComponent
-        small l zero k h = omega (arith, l .depth)
-        small l (suc i) k h = l .used i (omega (arith, label-depth))
-
-        fits : IsLabel label → (i : ℕ) → i < labelSize → wordFits (getD ws (r * recordSize) 0) i (getD ws (r * recordSize + i) 0) ≡ true
-        fits l i k = by-cases (decLt (getD ws (r * recordSize) 0) i)
-            (λ h. sym (word-unused _ i _ h) ∙ eq-eqb _ 0 (sym (label-word i k) ∙ l .unused i (omega (arith, label-depth)) k))
-            (λ h. sym (word-used _ i _ (omega arith)) ∙ le-leb _ maxComponent (subst (λ x. x ≤ maxComponent) (label-word i k) (small l i k (omega arith))))
+    fit-bad w n {b} high is e = is-false _ (λ t. subst T (sym is ∙ not-true b e)
+        (subst T (sym (words-all ws _ _ w n (λ i low h. same-fit i (omega arith) ∙ label-fits label t i (omega arith)))) tt))
 
     -- the record is laid out, and has a depth that fits it
     pub fit-laid : {w : ℕ} → Fitting ws r w → labelSize ≤ w → depthFits r (getD ws (r * recordSize) 0) ≡ true → Laid ws r

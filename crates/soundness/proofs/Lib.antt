@@ -1,4 +1,3 @@
-pub mod Words
 pub mod Fits
 pub mod Trail
 pub mod Pass

@@ -1,35 +1,22 @@
 -- The rules of a sound record, as one pass over a store tests them.
 use mathlib.Core.Bool.{Bool, true, cond, _&&_, _||_, not}
-use mathlib.Core.List.{List, [], _∷_, _++_}
+use mathlib.Core.List.{List, [], _∷_}
 use mathlib.Core.Option.{Option, none}
 use mathlib.Core.Path.{_≡_}
 use Prim.Native.Nat.{ℕ, zero, suc, _+_, _*_, _<_, _≤_}
-use lib.ListN.{length, getD, replicate}
+use lib.ListN.{length, getD}
 use lib.Dec.{ltb, leb, eqb}
 use Rattle.labelling.specs.Basics.{last}
-use Rattle.labelling.specs.Limits.{maxComponent, maxDepth, labelSize, recordSize}
+use Rattle.labelling.specs.Limits.{maxDepth, recordSize}
 use Rattle.labelling.specs.Refusals.{Refusal, first}
 use Rattle.labelling.specs.Names.{Clues, isName, cluesOf, tableCheck}
-use Rattle.labelling.specs.Labels.{before, shared, isComponent}
+use Rattle.labelling.specs.Labels.{before, shared}
 use Rattle.storage.specs.Store.{Element, Rule, readElement, test, laidOut, leads, closed, sizeCheck, soundCheck, orderRule, parentRule, nameRule, lastRule, nextRule}
 use Rattle.records.specs.Records.{recordAt}
 
 -- a depth is at most 15, and 0 for record 0 only
 unfoldable pub depthFits : ℕ → ℕ → Bool
 depthFits r depth = leb depth maxDepth && cond (eqb r 0) (eqb depth 0) (ltb 0 depth)
-
--- word w of a label of some depth: a used component is at most 65,534, an unused one 0
-unfoldable pub wordFits : ℕ → ℕ → ℕ → Bool
-wordFits depth w x = cond (leb w depth) (isComponent x) (eqb x 0)
-
--- the largest that each word of a label may be, from place 15 - depth on
-abbrev pub largestWords : List ℕ
-largestWords = replicate labelSize maxComponent ++ replicate labelSize 0
-
--- n words of a label that stands at a place of a slice fit some depth, from word w on
-unfoldable pub wordsFit : List ℕ → ℕ → ℕ → ℕ → ℕ → Bool
-wordsFit ws at depth w zero = true
-wordsFit ws at depth w (suc n) = wordsFit ws at depth w n && wordFits depth (w + n) (getD ws (at + (w + n)) 0)
 
 -- a next number is 0 if the clue, of n names, is empty or the depth is 15
 unfoldable pub closedBy : ℕ → ℕ → ℕ → Bool

@@ -2,6 +2,9 @@
 use labels::Label;
 use labels::ordered;
 use labels::shared;
+use layouts::HALF;
+use layouts::LARGEST;
+use layouts::half_fits;
 use names::Child;
 use names::MAX_NAME;
 use names::Table;
@@ -19,14 +22,12 @@ ghost use mathlib.Core.Path.{_≡_};
 ghost use mathlib.Core.List.{[]};
 ghost use Prim.Native.Nat.{_+_, _*_, _<_, _≤_};
 ghost use lib.ListN.{length, getD};
-ghost use lib.Dec.{eqb};
-ghost use Rattle.labelling.specs.Limits.{maxDepth, labelSize};
 ghost use Rattle.labelling.specs.Names.{cluesOf};
 ghost use Rattle.storage.specs.Store as model;
 ghost use Rattle.names.specs.Answers.{lensOf};
 ghost use Rattle.refusals.specs.Answers.{verdictOf};
 ghost use Rattle.records.specs.Records.{recordAt};
-ghost use Rattle.soundness.specs.Rules.{Ready, closedBy, depthFits, wordFits, largestWords, wordsFit, brokenRoot, brokenBelow, brokenAt, storeCheck};
+ghost use Rattle.soundness.specs.Rules.{Ready, closedBy, depthFits, brokenRoot, brokenBelow, brokenAt, storeCheck};
 ghost use Rattle.soundness.specs.Answers.{Numbered, checkOf, soundnessOf};
 
 // The rules of a sound record, in order.
@@ -76,72 +77,6 @@ fn depth_fits(r: usize, depth: usize) -> bool
         return depth == 0;
     }
     0 < depth
-}
-
-// The words of a label that are tested together: one half.
-const HALF: usize = 8;
-
-// The largest that each word of a label may be, from place 15 - depth on: 65,534 for a used component, 0 for an unused one.
-const LARGEST: [u16; 32] = [
-    Label::MAX_COMPONENT,
-    Label::MAX_COMPONENT,
-    Label::MAX_COMPONENT,
-    Label::MAX_COMPONENT,
-    Label::MAX_COMPONENT,
-    Label::MAX_COMPONENT,
-    Label::MAX_COMPONENT,
-    Label::MAX_COMPONENT,
-    Label::MAX_COMPONENT,
-    Label::MAX_COMPONENT,
-    Label::MAX_COMPONENT,
-    Label::MAX_COMPONENT,
-    Label::MAX_COMPONENT,
-    Label::MAX_COMPONENT,
-    Label::MAX_COMPONENT,
-    Label::MAX_COMPONENT,
-    0,
-    0,
-    0,
-    0,
-    0,
-    0,
-    0,
-    0,
-    0,
-    0,
-    0,
-    0,
-    0,
-    0,
-    0,
-    0,
-];
-
-// 0 where word w of a label fits its depth, 1 where it is too large.
-fn misfit(largest: &[u16; 32], depth: usize, w: usize, word: u16) -> u16
-    requires { ⌜ (now largest ≡ largestWords) × (depth ≤ maxDepth) × (w < labelSize) ⌝ }
-    ensures { λ m. ⌜ eqb m 0 ≡ wordFits depth w word ⌝ }
-{
-    if largest[w + Label::MAX_DEPTH - depth] < word {
-        1
-    } else {
-        0
-    }
-}
-
-// Half a label, from word w on, fits its depth: its words are gathered with no way out between them, so that the compiler takes them at once.
-fn half_fits(largest: &[u16; 32], store: &[u16], at: usize, depth: usize, w: usize) -> bool
-    requires { ⌜ (now largest ≡ largestWords) × (at + labelSize ≤ length (now store)) × (depth ≤ maxDepth) × (w + 8 ≤ labelSize) ⌝ }
-    ensures { λ b. ⌜ b ≡ wordsFit (now (store .entry)) at depth w 8 ⌝ }
-{
-    let mut any: u16 = 0;
-    let mut k: usize = 0;
-    while k < HALF {
-        let i = w + k;
-        any |= misfit(largest, depth, i, store[at + i]);
-        k += 1;
-    }
-    any == 0
 }
 
 // A next number is 0 if the clue is empty or the depth is 15.

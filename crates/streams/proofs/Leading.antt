@@ -10,6 +10,7 @@ use lib.ListN.{length, getD, take, drop, set, take-append-drop}
 use lib.Seq.{take-all, take-suc, take-suc-set, length-take-le}
 use Rattle.labelling.specs.Basics.{elim?, last}
 use Rattle.labelling.specs.Names.{Clues, led}
+use Rattle.labelling.specs.Limits.{maxDepth, labelSize}
 use Rattle.labelling.specs.Labels.{Label, path, stuck, decode}
 use Rattle.labelling.proofs.Decode.{further, decode-snoc, decode-child, stuck-more, name-end}
 use Rattle.names.specs.Answers.{childOf}
@@ -57,8 +58,8 @@ module _ (cl : Clues) (root : ℕ) (l : Label) (j : ℕ) (ns : List ℕ) (along 
           rw all
 
       -- one that leads to a name, which is written behind the others
-      pub lead-next : {c : ℕ} → x ≡ child.Name c → length l < length ns → Along cl root (take (j + 1) l) (set ns (j + 1) c)
-      lead-next {c} e room =
+      pub lead-next : {c : ℕ} → x ≡ child.Name c → length l ≤ maxDepth → length ns ≡ labelSize → Along cl root (take (j + 1) l) (set ns (j + 1) c)
+      lead-next {c} e deep room =
           let leads : led (cl (last (take (length (take j l) + 1) ns))) (getD l j 0) ≡ some c =
           ap (λ n. led (cl n) (getD l j 0)) reached ∙ sym (child-name _ is e) in
           let more : length (take (j + 1) l) ≡ j + 1 = length-take-le (j + 1) l (omega arith) in

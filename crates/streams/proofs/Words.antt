@@ -1,10 +1,11 @@
 -- The labels of a stream in its words: what each way out of the code on one of them tells.
-use Prim.Native.Nat.{ℕ, zero, suc, _+_, _-_, _*_, _<_}
+use Prim.Native.Nat.{ℕ, zero, suc, _+_, _-_, _*_, _<_, _≤_}
 use mathlib.Core.Path.{_≡_, refl, ap, _∙_}
 use mathlib.Core.Bool.{Bool, true, _||_}
 use mathlib.Core.List.{List, [], _∷_}
 use native.Mathlib.Omega.{arith}
-use lib.ListN.{getD, take, drop}
+use lib.ListN.{length, getD, take, drop, length-drop}
+use lib.Seq.{length-take-le}
 use lib.Dec.{eqb}
 use borrow.Author.Tests.{eq-eqb, ne-eqb}
 use Rattle.labelling.specs.Basics.{elim?}
@@ -18,6 +19,12 @@ use Rattle.streams.specs.Streams.{wordsAt, labelAt, previousAt, labelBef
 pub words-are : (ws : List ℕ) (i : ℕ) → take (i * labelSize + labelSize - i * labelSize) (drop (i * labelSize) ws) ≡ wordsAt i ws
 unfolding wordsAt
 words-are ws i = let e : i * labelSize + labelSize - i * labelSize ≡ labelSize = omega arith in rw e
+
+-- there are sixteen
+pub words-sixteen : (ws : List ℕ) (i : ℕ) → i * labelSize + labelSize ≤ length ws → length (take (i * labelSize + labelSize - i * labelSize) (drop (i * labelSize) ws)) ≡ labelSize
+words-sixteen ws i room =
+    let e : i * labelSize + labelSize - i * labelSize ≡ labelSize = omega arith in
+    rw e (length-take-le labelSize (drop (i * labelSize) ws) (omega (arith, length-drop (i * labelSize) ws)))
 
 -- before the first label stands the root's
 pub before-first : (ws : List ℕ) (i : ℕ) → i ≡ 0 → [] ≡ labelBefore i ws

@@ -1,9 +1,10 @@
 // Streams: the check of one stream of labels, in one pass that decodes only what changed from label to label.
 use labels::Label;
 use labels::components;
-use labels::is_label;
 use labels::ordered;
 use labels::shared;
+use layouts::LARGEST;
+use layouts::laid_out;
 use names::Child;
 use names::Table;
 use names::asks;
@@ -23,6 +24,7 @@ ghost use Rattle.labelling.specs.Names.{cluesOf};
 ghost use Rattle.labelling.specs.Labels as model;
 ghost use Rattle.patterns.specs.Matching.{labelsIn, streamCheck};
 ghost use Rattle.names.specs.Answers.{lensOf};
+ghost use Rattle.layouts.specs.Words as layout;
 ghost use Rattle.refusals.specs.Answers.{verdictOf};
 ghost use Rattle.refusals.specs.declared.Verdict.the-variants as verdict;
 ghost use Rattle.streams.specs.Streams.{sharesOf, Along, Paths, leadsOn, wordsAt, labelAt, labelBefore, standsAt, Stood};
@@ -37,7 +39,7 @@ pub enum Link {
 // The words of label i of a stream.
 fn words_at(stream: &[u16], i: usize) -> &[u16]
     requires { ⌜ i * 16 + 16 ≤ length (now stream) ⌝ }
-    ensures { λ r. ⌜ now r ≡ wordsAt i (now (stream .entry)) ⌝ }
+    ensures { λ r. ⌜ (now r ≡ wordsAt i (now (stream .entry))) × (length (now r) ≡ 16) ⌝ }
 {
     let at = i * Label::WORDS;
     &stream[at..at + Label::WORDS]
@@ -56,9 +58,9 @@ fn label_before(stream: &[u16], i: usize) -> &[u16]
 
 // Names that begin with those along the first s components of a label, led on along the others; false where a clue is empty.
 fn lead_on(table: &Table, lens: &[usize], label: &[u16], s: usize, names: &mut [u8]) -> bool
-    requires { ⌜ (now lens ≡ lensOf (now table)) × (s ≤ length (now label)) × (length (now label) < length (now names)) × Along (cluesOf (now table)) (getD (now names) 0 0) (take s (now label)) (now names) ⌝ }
+    requires { ⌜ (now lens ≡ lensOf (now table)) × (s ≤ length (now label)) × (length (now label) ≤ 15) × (length (now names) ≡ 16) × Along (cluesOf (now table)) (getD (now names) 0 0) (take s (now label)) (now names) ⌝ }
     ensures { λ b. ⌜ b ≡ leadsOn (model.decode (cluesOf (now (table .entry))) (getD (now (names .entry)) 0 0) (now (label .entry))) ⌝ }
-    ensures { λ b. ⌜ length (now (names .exit)) ≡ length (now (names .entry)) ⌝ }
+    ensures { λ b. ⌜ length (now (names .exit)) ≡ 16 ⌝ }
     ensures { λ b. ⌜ (b ≡ true → Along (cluesOf (now (table .entry))) (getD (now (names .entry)) 0 0) (now (label .entry)) (now (names .exit))) ⌝ }
 {
     let mut j = s;
@@ -85,18 +87,19 @@ fn is_later(i: usize, previous: &[u16], label: &[u16], s: usize) -> bool
 fn read_label(
     table: &Table,
     lens: &[usize],
+    largest: &[u16; 32],
     want: u8,
     stream: &[u16],
     i: usize,
     names: &mut [u8],
 ) -> Link
-    requires { ⌜ (now lens ≡ lensOf (now table)) × (i * 16 + 16 ≤ length (now stream)) × (length (now names) ≡ 16) × Stood i (now stream) × Along (cluesOf (now table)) (getD (now names) 0 0) (labelBefore i (now stream)) (now names) ⌝ }
+    requires { ⌜ (now largest ≡ layout.largestWords) × (now lens ≡ lensOf (now table)) × (i * 16 + 16 ≤ length (now stream)) × (length (now names) ≡ 16) × Stood i (now stream) × Along (cluesOf (now table)) (getD (now names) 0 0) (labelBefore i (now stream)) (now names) ⌝ }
     ensures { λ k. ⌜ k ≡ linkOf (standsAt (cluesOf (now (table .entry))) (getD (now (names .entry)) 0 0) want i (now (stream .entry))) (model.shared (labelBefore i (now (stream .entry))) (labelAt i (now (stream .entry)))) ⌝ }
     ensures { λ k. ⌜ length (now (names .exit)) ≡ 16 ⌝ }
     ensures { λ k. ⌜ (standsAt (cluesOf (now (table .entry))) (getD (now (names .entry)) 0 0) want i (now (stream .entry)) ≡ true → Along (cluesOf (now (table .entry))) (getD (now (names .entry)) 0 0) (labelAt i (now (stream .entry))) (now (names .exit))) ⌝ }
 {
     let words = words_at(stream, i);
-    if !is_label(words) {
+    if !laid_out(largest, words) {
         return Link::RuledOut;
     }
     let label = components(words);
@@ -143,11 +146,13 @@ pub fn check_stream(
     ensures { λ v. ⌜ (length (now (shares .exit)) ≡ length (now (shares .entry))) × (length (now (paths .exit)) ≡ length (now (paths .entry))) ⌝ }
     ensures { λ v. ⌜ (v ≡ verdict.Passed → (now (shares .exit) ≡ sharesOf (labelsIn (length (now (shares .entry))) (now (stream .entry)))) × Paths (cluesOf (now (table .entry))) root (labelsIn (length (now (shares .entry))) (now (stream .entry))) (now (paths .exit))) ⌝ }
 {
+    // Read once: a constant array is made anew wherever it is read.
+    let largest = LARGEST;
     let mut names = [0u8; 16];
     names[0] = root;
     let mut i: usize = 0;
     while i < shares.len() {
-        let Link::Shares(s) = read_label(table, lens, want, stream, i, &mut names) else {
+        let Link::Shares(s) = read_label(table, lens, &largest, want, stream, i, &mut names) else {
             return refuse(Refusal::BAD_STREAM, base + i);
         };
         shares[i] = s as u8;

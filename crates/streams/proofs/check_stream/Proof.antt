@@ -11,7 +11,7 @@ use Rattle.streams.proofs.check_stream.Statement.{statement}
 use Rattle.streams.proofs.check_stream.Tie as tie
 
 abbrev Inv-loop : tie.InvT-loop
-Inv-loop table lens root want base stream shares₀ paths₀ names₀ i₀ shares paths names i =
+Inv-loop table lens root want base stream shares₀ paths₀ largest names₀ i₀ shares paths names i =
     (i ≤ length shares₀)
     × (length shares ≡ length shares₀)
     × (length paths ≡ length paths₀)
@@ -19,29 +19,29 @@ Inv-loop table lens root want base stream shares₀ paths₀ names₀ i₀ share
     × Reading (cluesOf table) root want base (length shares₀) stream i names shares paths
 
 abbrev μ-loop : tie.MeasureT-loop
-μ-loop table lens root want base stream shares₀ paths₀ names₀ i₀ shares paths names i = length shares₀ - i
+μ-loop table lens root want base stream shares₀ paths₀ largest names₀ i₀ shares paths names i = length shares₀ - i
 
 read-label-requires : tie.Need-read-label-requires Inv-loop μ-loop
 read-label-requires c κs =
-    let reading = c .before .before .loop .inv .4 in
-    (search needs, search needs, search needs, reading .stood, read-ready reading)
+    let reading = c .before .before .before .loop .inv .4 in
+    (search needs, search needs, search needs, search needs, reading .stood, read-ready reading)
 
 returns : tie.Need-returns Inv-loop μ-loop
 returns c =
-    let reading = c .before .before .before .before .before .before .before .loop .inv .4 in
+    let reading = c .before .before .before .before .before .before .before .before .loop .inv .4 in
     let link = c .before .before .before .before .read-label .ensures .0 in
     let out = c .refuse .ensures in
     (read-out reading (search needs) link (search needs) out, ((search needs, search needs), λ e. absurd (refused-not _ _ out e)))
 
 cast-shares : tie.Need-cast-shares Inv-loop μ-loop
 cast-shares c =
-    let reading = c .before .before .before .before .before .before .before .loop .inv .4 in
+    let reading = c .before .before .before .before .before .before .before .before .loop .inv .4 in
     let link = c .before .before .before .before .read-label .ensures .0 in
     fits-under _ _ 16 (read-few reading (search needs) link (search needs)) tt
 
 loop-again : tie.Need-loop-again Inv-loop μ-loop
 loop-again c =
-    let reading = c .before .before .before .before .before .before .before .before .before .before .before .before .loop .inv .4 in
+    let reading = c .before .before .before .before .before .before .before .before .before .before .before .before .before .loop .inv .4 in
     let (link, named) = c .before .before .before .before .before .before .before .before .before .read-label .ensures in
     let written = c .before .before .write-names .ensures in (
       search needs,

@@ -5,6 +5,7 @@ use borrow.Author.Needs.{needs}
 use mir.Facts.{fits-widen}
 use lib.ListN.{length, getD, take}
 use lib.Dec.{T}
+use Rattle.labelling.specs.Limits.{labelSize}
 use Rattle.labelling.specs.Names.{cluesOf}
 use Rattle.names.proofs.Lens.{len-is}
 use Rattle.streams.specs.Streams.{Along}
@@ -14,7 +15,7 @@ use Rattle.streams.proofs.lead_on.Tie as tie
 
 abbrev Inv-loop : tie.InvT-loop
 Inv-loop table lens label s names₀ j₀ names j =
-    (j ≤ length label) × (length names ≡ length names₀) × Along (cluesOf table) (getD names₀ 0 0) (take j label) names
+    (j ≤ length label) × (length names ≡ labelSize) × Along (cluesOf table) (getD names₀ 0 0) (take j label) names
 
 abbrev μ-loop : tie.MeasureT-loop
 μ-loop table lens label s names₀ j₀ names j = length label - j

@@ -18,7 +18,7 @@ read-label-spec =
     (λ c κs. search needs)
     (λ c κs. search needs)
     (λ c. link-out _ _ _ _ _ _ _ (search (link-later, needs)) (search needs))
-    (λ c κs. (search needs, search (share-in, needs), search needs, search (share-along, needs)))
+    (λ c κs. (search needs, search (share-in, needs), search needs, search needs, search (share-along, needs)))
     (λ c. search needs)
     (λ c. link-out _ _ _ _ _ _ _ (search (link-stuck, needs)) (search needs))
     (λ c. search needs)

@@ -1,6 +1,6 @@
 -- `streams::words_at` meets its contract: sixteen words from where the label stands.
 use borrow.Author.Needs.{needs}
-use Rattle.streams.proofs.Words.{words-are}
+use Rattle.streams.proofs.Words.{words-are, words-sixteen}
 use Rattle.streams.proofs.words_at.Statement.{statement}
 use Rattle.streams.proofs.words_at.Tie as tie
 
@@ -14,4 +14,4 @@ words-at-spec =
     (λ c. search needs)
     (λ c. search needs)
     (λ c. search needs)
-    (λ c. search (words-are, needs)))
+    (λ c. search (words-are, words-sixteen, needs)))

@@ -15,7 +15,7 @@ use borrow.Author.Tests.{eq-eqb, ne-eqb, le-leb, lt-leb}
 use Rattle.labelling.specs.Limits.{maxComponent, maxDepth, labelSize}
 use Rattle.labelling.specs.Labels.{isComponent}
 use Rattle.labelling.proofs.Tests.{is-true, and-iff, or-zero}
-use Rattle.soundness.specs.Rules.{wordFits, largestWords, wordsFit}
+use Rattle.layouts.specs.Words.{wordFits, largestWords, wordsFit}
 
 -- a word by its place
 module _ (depth w x : ℕ) where

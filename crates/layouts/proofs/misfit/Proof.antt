@@ -1,8 +1,8 @@
--- `soundness::misfit` meets its contract: a word that is too large, or one that is not.
+-- `layouts::misfit` meets its contract: a word that is too large, or one that is not.
 use borrow.Author.Needs.{needs}
-use Rattle.soundness.proofs.Words.{word-over, word-within}
-use Rattle.soundness.proofs.misfit.Statement.{statement}
-use Rattle.soundness.proofs.misfit.Tie as tie
+use Rattle.layouts.proofs.Words.{word-over, word-within}
+use Rattle.layouts.proofs.misfit.Statement.{statement}
+use Rattle.layouts.proofs.misfit.Tie as tie
 
 pub misfit-spec : {M : Type 1} → statement M
 misfit-spec =

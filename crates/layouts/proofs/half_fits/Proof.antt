@@ -1,12 +1,12 @@
--- `soundness::half_fits` meets its contract: the words before the index, all together.
+-- `layouts::half_fits` meets its contract: the words before the index, all together.
 use Prim.Native.Nat.{_-_, _≤_}
 use mathlib.Core.Path.{_≡_}
 use borrow.Author.Needs.{needs}
 use lib.Dec.{eqb}
-use Rattle.soundness.specs.Rules.{wordsFit}
-use Rattle.soundness.proofs.Words.{words-start, words-on, words-end}
-use Rattle.soundness.proofs.half_fits.Statement.{statement}
-use Rattle.soundness.proofs.half_fits.Tie as tie
+use Rattle.layouts.specs.Words.{wordsFit}
+use Rattle.layouts.proofs.Words.{words-start, words-on, words-end}
+use Rattle.layouts.proofs.half_fits.Statement.{statement}
+use Rattle.layouts.proofs.half_fits.Tie as tie
 
 abbrev Inv-loop : tie.InvT-loop
 Inv-loop largest store at depth w any₀ k₀ any k = (k ≤ 8) × (eqb any 0 ≡ wordsFit store at depth w k)

@@ -1,0 +1,36 @@
+-- `layouts::laid_out` meets its contract: the words before the index, all together.
+use Prim.Native.Nat.{_-_, _≤_}
+use mathlib.Core.Path.{_≡_}
+use borrow.Author.Needs.{needs}
+use mir.Facts.{fits-widen}
+use lib.Dec.{eqb}
+use Rattle.labelling.specs.Limits.{labelSize}
+use Rattle.layouts.specs.Words.{wordsFit}
+use Rattle.layouts.proofs.Fits.{depth-within, all-start, all-on, all-misfit, all-deep}
+use Rattle.layouts.proofs.laid_out.Statement.{statement}
+use Rattle.layouts.proofs.laid_out.Tie as tie
+
+abbrev Inv-loop : tie.InvT-loop
+Inv-loop largest words depth bounded any₀ w₀ any w = (w ≤ labelSize) × (eqb any 0 ≡ wordsFit words 0 bounded 0 w)
+
+abbrev μ-loop : tie.MeasureT-loop
+μ-loop largest words depth bounded any₀ w₀ any w = labelSize - w
+
+pub laid-out-spec : {M : Type 1} → statement M
+laid-out-spec =
+    tie.close
+    (tie.spec
+    Inv-loop
+    μ-loop
+    (λ c. search needs)
+    (λ c. fits-widen tt (c .shared-slice-known2 .given _))
+    (λ c κs. search needs)
+    (λ c. search (all-start, needs))
+    (λ c. search needs)
+    (λ c. search needs)
+    (λ c κs. search (depth-within, needs))
+    (λ c. search needs)
+    (λ c. search needs)
+    (λ c. search (all-on, needs))
+    (λ c. search (all-deep, needs))
+    (λ c. search (all-misfit, needs)))
