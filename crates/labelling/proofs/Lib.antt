@@ -1,5 +1,6 @@
 -- Tests, orders, lists, checks, outputs.
 pub mod Tests
+pub mod Zeros
 pub mod Orders
 pub mod Lists
 pub mod Scans

@@ -4,7 +4,7 @@ use refusals::Verdict;
 use refusals::refuse;
 ghost use mathlib.Core.Path.{_≡_};
 ghost use mathlib.Core.Bool.{true, _&&_};
-ghost use Prim.Native.Nat.{_≤_, _<_};
+ghost use Prim.Native.Nat.{_+_, _≤_, _<_};
 ghost use mathlib.Core.List.{[]};
 ghost use lib.ListN.{length, take, drop};
 ghost use Rattle.labelling.specs.Basics.{all};
@@ -135,11 +135,12 @@ pub fn components(words: &[u16]) -> &[u16]
     after_first(words, words[0] as usize)
 }
 
-// How many leading components two labels share.
-pub fn shared(a: &[u16], b: &[u16]) -> usize
+// How many leading components two labels share, the first `from` of them known.
+pub fn shared_from(a: &[u16], b: &[u16], from: usize) -> usize
+    requires { ⌜ (from ≤ length (now a)) × (model.shared (now a) (now b) ≡ from + model.shared (drop from (now a)) (drop from (now b))) ⌝ }
     ensures { λ r. ⌜ r ≡ model.shared (now (a .entry)) (now (b .entry)) ⌝ }
 {
-    let mut i: usize = 0;
+    let mut i = from;
     while i < a.len() {
         if b.len() <= i {
             return i;
@@ -150,6 +151,13 @@ pub fn shared(a: &[u16], b: &[u16]) -> usize
         i += 1;
     }
     i
+}
+
+// How many leading components two labels share.
+pub fn shared(a: &[u16], b: &[u16]) -> usize
+    ensures { λ r. ⌜ r ≡ model.shared (now (a .entry)) (now (b .entry)) ⌝ }
+{
+    shared_from(a, b, 0)
 }
 
 // Label order: the first label comes before the second.

@@ -1,13 +1,15 @@
 // Layouts: labels as they lie in sixteen words, tested and compared with no way out between the words, so that the compiler takes several at once.
 use labels::Label;
+use labels::shared_from;
 ghost use mathlib.Core.Path.{_≡_};
-ghost use mathlib.Core.Bool.{true};
 ghost use Prim.Native.Nat.{_+_, _<_, _≤_, min};
-ghost use lib.ListN.{length};
-ghost use lib.Dec.{eqb};
+ghost use lib.ListN.{length, getD, take, drop};
+ghost use lib.Dec.{T, eqb};
+ghost use Rattle.labelling.specs.Basics.{all};
 ghost use Rattle.labelling.specs.Limits.{maxDepth, labelSize};
 ghost use Rattle.labelling.specs.Labels as model;
 ghost use Rattle.layouts.specs.Words as layout;
+ghost use Rattle.layouts.specs.Fours.{isWord, joined};
 
 // The words of a label that are tested together: one half.
 pub const HALF: usize = 8;
@@ -96,4 +98,54 @@ pub fn laid_out(largest: &[u16; 32], words: &[u16]) -> bool
         w += 1;
     }
     any == 0 && depth == bounded
+}
+
+// The components that are compared together.
+const FOUR: usize = 4;
+// The bits of a word.
+const WORD_BITS: u32 = 16;
+// How many numbers fit a word.
+const WORD: u64 = 65536;
+
+// Word i as a number of sixty-four bits.
+fn wide(s: &[u16], i: usize) -> u64
+    requires { ⌜ i < length (now s) ⌝ }
+    ensures { λ r. ⌜ (r ≡ getD (now (s .entry)) i 0) × (r < 65536) ⌝ }
+{
+    s[i] as u64
+}
+
+// Four words from place i on as one number, the first of them lowest.
+fn four(s: &[u16], i: usize) -> u64
+    requires { ⌜ i + 4 ≤ length (now s) ⌝ }
+    ensures { λ r. ⌜ (r ≡ joined (take 4 (drop i (now (s .entry))))) × T (all isWord (take 4 (drop i (now (s .entry))))) ⌝ }
+{
+    let high = wide(s, i + 3) * WORD + wide(s, i + 2);
+    let low = wide(s, i + 1) * WORD + wide(s, i);
+    high * WORD * WORD + low
+}
+
+// How many leading components two labels share of the four from place i on: as many as whole words stand below the first bit that differs.
+fn four_shared(a: &[u16], b: &[u16], i: usize) -> usize
+    requires { ⌜ (i + 4 ≤ length (now a)) × (i + 4 ≤ length (now b)) ⌝ }
+    ensures { λ r. ⌜ r ≡ model.shared (take 4 (drop i (now (a .entry)))) (take 4 (drop i (now (b .entry)))) ⌝ }
+{
+    let same = u64::trailing_zeros(four(a, i) ^ four(b, i));
+    (same / WORD_BITS) as usize
+}
+
+// How many leading components two labels share: four at a time, then the rest. Of short parts `labels::shared` tells it sooner.
+pub fn shared_part(a: &[u16], b: &[u16]) -> usize
+    ensures { λ r. ⌜ r ≡ model.shared (now (a .entry)) (now (b .entry)) ⌝ }
+{
+    let n = lesser(a.len(), b.len());
+    let mut i: usize = 0;
+    while FOUR <= n - i {
+        let s = four_shared(a, b, i);
+        if s < FOUR {
+            return i + s;
+        }
+        i += FOUR;
+    }
+    shared_from(a, b, i)
 }

@@ -1,10 +1,10 @@
 // Soundness: the first record of a store that breaks a rule, found in one pass.
 use labels::Label;
 use labels::ordered;
-use labels::shared;
 use layouts::HALF;
 use layouts::LARGEST;
 use layouts::half_fits;
+use layouts::shared_part;
 use names::Child;
 use names::MAX_NAME;
 use names::Table;
@@ -125,7 +125,7 @@ fn child_rules(table: &Table, lens: &[usize], store: &[u16], r: usize, parent: u
 {
     let previous = label_at(store, r);
     let label = label_at(store, r + 1);
-    let s = shared(previous, label);
+    let s = shared_part(previous, label);
     if !ordered(previous, label, s) {
         return Check::Broken(Rule::Order);
     }

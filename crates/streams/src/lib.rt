@@ -2,9 +2,9 @@
 use labels::Label;
 use labels::components;
 use labels::ordered;
-use labels::shared;
 use layouts::LARGEST;
 use layouts::laid_out;
+use layouts::shared_part;
 use names::Child;
 use names::Table;
 use names::asks;
@@ -104,7 +104,7 @@ fn read_label(
     }
     let label = components(words);
     let previous = label_before(stream, i);
-    let s = shared(previous, label);
+    let s = shared_part(previous, label);
     if !is_later(i, previous, label, s) {
         return Link::RuledOut;
     }

@@ -1,15 +1,14 @@
 -- The records of a twig, read from its bytes, and what holds of them where the bytes are accepted.
 use Prim.Native.Nat.{ℕ, _+_, _*_, _/_, _<_, _≤_}
-use mathlib.Core.Path.{_≡_, refl, ap}
-use mathlib.Core.Logic.{_⊎_}
+use mathlib.Core.Path.{_≡_}
 use mathlib.Core.List.{List}
 use mathlib.Core.Option.{none}
 use native.Mathlib.Nat.{add-zero}
 use native.Mathlib.Omega.{arith}
 use lib.ListN.{length, getD}
 use Rattle.labelling.specs.Limits.{nodeSize}
-use Rattle.patterns.specs.Twigs.{Node, childEdge, descendantEdge, nodeAt, readTwig, twigCheck}
-use Rattle.patterns.proofs.TwigBytes.{length-readTwig, readTwig-at, twigCheck-iff, accepted-twig}
+use Rattle.patterns.specs.Twigs.{nodeAt, readTwig, twigCheck}
+use Rattle.patterns.proofs.TwigBytes.{length-readTwig, readTwig-at, accepted-twig}
 use Rattle.twigs.specs.Answers.{nodeOf}
 
 -- a twig has a record for every four bytes
@@ -26,18 +25,6 @@ module _ (bytes : List ℕ) (q : ℕ) (h : q * nodeSize + nodeSize ≤ length by
       record { parent = getD bytes (q * nodeSize) 0; edge = getD bytes (q * nodeSize + 1) 0; name = getD bytes (q * nodeSize + 2) 0 }
   node-read = let e : nodeSize * q ≡ q * nodeSize = omega arith in rw e at (readTwig-at bytes q (omega arith))
 
-  -- the first is the parent's number
-  pub node-parent : nodeAt (readTwig bytes) q .parent ≡ getD bytes (q * nodeSize) 0
-  node-parent = ap (λ (n : Node). n .parent) node-read
-
-  -- the second the edge
-  pub node-edge : nodeAt (readTwig bytes) q .edge ≡ getD bytes (q * nodeSize + 1) 0
-  node-edge = ap (λ (n : Node). n .edge) node-read
-
-  -- the third the name
-  pub node-name : nodeAt (readTwig bytes) q .name ≡ getD bytes (q * nodeSize + 2) 0
-  node-name = ap (λ (n : Node). n .name) node-read
-
   -- the three as data
   pub node-data : record { parent = getD bytes (q * nodeSize + 0) 0; edge = getD bytes (q * nodeSize + 1) 0; name = getD bytes (q * nodeSize + 2) 0 } ≡
       nodeOf (nodeAt (readTwig bytes) q)
@@ -52,16 +39,6 @@ module _ (bytes : List ℕ) (e : twigCheck bytes ≡ none) where
   -- there are at most eight
   pub twig-few : length (readTwig bytes) ≤ 8
   twig-few = omega (arith, accepted-twig bytes e .few)
-
-  -- they are all that there is
-  pub twig-whole : length bytes ≡ length (readTwig bytes) * nodeSize
-  twig-whole = omega (arith, twigCheck-iff bytes .0 e .fours, length-readTwig bytes)
-
-  -- an edge is to a child or to a descendant
-  pub twig-edge : (q : ℕ) → q < length (readTwig bytes) → (nodeAt (readTwig bytes) q .edge ≡ childEdge) ⊎ (nodeAt (readTwig bytes) q .edge ≡ descendantEdge)
-  twig-edge q h =
-      let i : nodeSize * q ≡ q * nodeSize = omega arith in
-      rw (node-edge bytes q (node-bytes bytes q refl h)) (rw i at (twigCheck-iff bytes .0 e .records q (omega (arith, twig-whole)) .edge))
 
   -- a parent stands earlier
   pub twig-parent : (q : ℕ) → 0 < q → q < length (readTwig bytes) → nodeAt (readTwig bytes) q .parent < q
