@@ -60,8 +60,11 @@ module _ {rows : List (List ℕ)} {root : ℕ} {b : Book} {g : List Label} {slic
         parent = x;
         found = p .found;
         parentLabel = label;
+        place = p .suits .place;
+        placed = p .suits .placed;
         num = f;
         numbered = refl;
+        least = p .suits .least;
         added = here refl;
         answered = ap (λ (a : Answer). a .label) a;
         decoded =

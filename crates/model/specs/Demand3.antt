@@ -6,10 +6,11 @@ use mathlib.Core.Option.{none, some}
 use Prim.Native.Nat.{ℕ, _+_, _-_, _*_, _≤_, _<_}
 use lib.ListN.{length, getD, take, replicate}
 use lib.Dec.{T}
-use Rattle.labelling.specs.Basics.{_∈_, joined, over, Ascending}
+use Rattle.labelling.specs.Basics.{_∈_, joined, last, over, Ascending}
 use Rattle.labelling.specs.Limits.{labelSize, recordSize}
 use Rattle.labelling.specs.Refusals.{Refusal}
-use Rattle.labelling.specs.Names.{cluesOf, tableCheck}
+use Rattle.labelling.specs.Names.{cluesOf, placeIn, tableCheck}
+use Rattle.labelling.specs.Numbers.{Least}
 use Rattle.labelling.specs.Labels.{Label, within, same, labelOf, labelWords, namesIn, path, decodeCall}
 use Rattle.patterns.specs.Twigs.{readTwig, twigCheck, nameCheck, wanted, leafNames}
 use Rattle.patterns.specs.Matches.{labelsWords, matchWords, less}
@@ -58,9 +59,14 @@ pub record EntryHolds (rows : List (List ℕ)) (root n : ℕ) (b after : Book) (
   pub parent : Line
   pub found : lineAt (labelOf lw) b ≡ some parent
   pub parentLabel : parent .label ≡ labelOf lw
-  -- the line added is new, and the entry answered its label
+  -- the name's place in the parent's clue
+  pub place : ℕ
+  pub placed : placeIn name (cluesOf rows (last (parent .names))) ≡ some place
+  -- the number given: the least that is at least the parent's next number and leaves the place when divided by the clue's length
   pub num : ℕ
   pub numbered : num ≡ given (cluesOf rows) (lineElement parent) name
+  pub least : Least (length (cluesOf rows (last (parent .names)))) place (parent .next) num
+  -- the line added is new, and the entry answered its label
   pub added : childLine parent num name p0 p1 ∈ after
   pub answered : answer rows slice n (entry lw name p0 p1) .label ≡ labelWords (parent .label ++ (num ∷ []))
   -- decoding it gives its path
