@@ -1,8 +1,8 @@
--- Decoding, one component more at the end.
+-- Decoding, one component more at the end or in front.
 use mathlib.Core.Path.{_≡_, refl, sym, ap, _∙_}
 use mathlib.Core.List.{List, [], _∷_, _++_, append-nil, append-assoc}
 use mathlib.Core.Option.{Option, none, some}
-use Prim.Native.Nat.{ℕ, suc, _-_, _≤_}
+use Prim.Native.Nat.{ℕ, suc, _+_, _-_, _≤_}
 use native.Mathlib.Omega.{arith}
 use lib.ListN.{length, take}
 use Rattle.labelling.specs.Basics.{elim?, last}
@@ -138,3 +138,17 @@ name-child cl p l k n e = ap endOf (decode-snoc cl p l k) ∙ go (decode cl p l)
     go : (d : Decoded) → endOf d ≡ some n → endOf (further cl d k) ≡ led (cl n) k
     go (path ns) e = let f : last ns ≡ n = cc in rw f (end ns (led (cl n) k))
     go (stuck i) e = let z : _≡_ {A = Option ℕ} none (some n) = e in cc
+
+-- the name that a label decodes to is the one its rest decodes to from the name that its first component leads to
+pub name-cons : (cl : Clues) (p x c : ℕ) (l : Label) → led (cl p) x ≡ some c → nameAt cl p (x ∷ l) ≡ nameAt cl c l
+unfolding nameAt endOf decode behind elim?
+name-cons cl p x c l e = rw e (go (decode cl c l) (starts cl c l))
+  where
+    go : (d : Decoded) → Starts c l d → endOf (behind p d) ≡ endOf d
+    go (path []) s = let (rest, e, n) = s .begins [] refl in absurd (omega (arith, ap length e))
+    go (path (n ∷ ns)) s = ap some (last-cons p n ns)
+    go (stuck i) s = refl
+
+-- a path has one name more than its label has components
+pub path-length : (cl : Clues) (p : ℕ) (l : Label) (ns : List ℕ) → decode cl p l ≡ path ns → length ns ≡ length l + 1
+path-length cl p l ns e = let (rest, f, n) = starts cl p l .begins ns e in omega (arith, ap length f)

@@ -56,6 +56,7 @@ module _ {rows : List (List ℕ)} {root : ℕ} {b : Book} {g : List Label} {slic
       let f = num ready lw name p0 p1 e in
       let a = entry-answer ready lw name p0 p1 e in
       let good = entry-good ready lw name p0 p1 e in
+      let line = good .lines (childLine x f name p0 p1) (here refl) in
       subst (λ after. EntryHolds rows root (length b) b after slice lw name p0 p1) (sym (entry-book ready lw name p0 p1 e)) (record {
         parent = x;
         found = p .found;
@@ -67,8 +68,8 @@ module _ {rows : List (List ℕ)} {root : ℕ} {b : Book} {g : List Label} {slic
         least = p .suits .least;
         added = here refl;
         answered = ap (λ (a : Answer). a .label) a;
+        newPath = line .decodes;
         decoded =
-            let line = good .lines (childLine x f name p0 p1) (here refl) in
             ap (λ (a : Answer). decodeCall rows root (a .label)) a ∙
             decode-call rows root (x .label ++ (f ∷ [])) (ready .table) (good .rootIsName) (line .labelled)
             (x .names ++ (name ∷ [])) (line .decodes);

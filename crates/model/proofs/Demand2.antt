@@ -1,6 +1,6 @@
 -- Demand 2: the list of matches, and what streams cut from a sound store give.
 use mathlib.Core.Path.{_≡_, refl, ap, sym, _∙_}
-use mathlib.Core.List.{List, []}
+use mathlib.Core.List.{List, [], _∷_, _++_}
 use mathlib.Core.Option.{none}
 use Prim.Native.Nat.{ℕ, zero, suc, _≤_, _*_}
 use native.Mathlib.Omega.{arith}
@@ -9,14 +9,16 @@ use lib.Dec.{T}
 use Rattle.labelling.specs.Basics.{_∈_}
 use Rattle.labelling.specs.Limits.{labelSize, maxDepth}
 use Rattle.labelling.specs.Names.{Clues, tableCheck, cluesOf}
-use Rattle.labelling.specs.Labels.{Label, within}
+use Rattle.labelling.specs.Labels.{Label, within, above}
 use Rattle.patterns.specs.Twigs.{Twig, twigCheck, GoodTwig, readTwig, wanted}
 use Rattle.patterns.specs.Matches.{Match, matchWords, IsMatch, matches}
-use Rattle.storage.specs.Store.{rootOf, sizeCheck, soundCheck, elements}
+use Rattle.storage.specs.Store.{rootOf, sizeCheck, soundCheck, elements, records}
 use Rattle.patterns.specs.Matching.{streamsCheck, dealt, matchCall, matchesOf}
+use Rattle.model.specs.Trees.{namesTo}
 use Rattle.model.specs.Demand2.{Demand2, ListHolds, StoreHolds}
-use Rattle.labelling.proofs.Lists.{member-at}
-use Rattle.labelling.proofs.LabelOrder.{within-iff}
+use Rattle.labelling.proofs.Lists.{member-at, for-cons}
+use Rattle.labelling.proofs.LabelOrder.{within-iff, above-snoc}
+use Rattle.labelling.proofs.Decode.{path-length}
 use Rattle.patterns.proofs.TwigBytes.{accepted-twig}
 use Rattle.patterns.proofs.Matches.{matches-ascending, leaf-below, matches-iff}
 use Rattle.patterns.proofs.Paths.{path-solutions}
@@ -24,11 +26,14 @@ use Rattle.labelling.proofs.LabelWords.{GoodLabel}
 use Rattle.patterns.proofs.MatchWords.{length-matchWords}
 use Rattle.storage.proofs.Sizes.{size-iff, length-elements-read}
 use Rattle.storage.proofs.Faults.{sound-check}
-use Rattle.storage.proofs.SoundStore.{SoundElements, sound-elements}
+use Rattle.storage.proofs.SoundStore.{SoundElements, sound-elements, sound-root, sound-parents}
 use Rattle.patterns.proofs.StreamChecks.{streams-accepted, streams-labels}
 use Rattle.storage.proofs.StreamWords.{streams-sound}
 use Rattle.storage.proofs.Listings.{Stored, cut-listed, match-listed}
 use Rattle.labelling.proofs.Outputs.{listed-whole, listed-refusal}
+use Rattle.model.proofs.Good.{snoc-root}
+use Rattle.model.proofs.Trees.{Has, Rooted, ancestor, decode-names}
+use Rattle.model.proofs.Embeddings.{full-ascending, full-embeddings}
 
 -- an ancestor's label is no longer than a descendant's
 within-length : (up low : Label) → T (within up low) → length up ≤ length low
@@ -70,12 +75,24 @@ unfolding rootOf
 store-elements cl ws zero size sound = absurd (omega (arith, size-iff (length ws) 0 .0 size .used))
 store-elements cl ws (suc n) size sound = sound-elements cl n ws (sound-check cl (suc n) ws .0 sound)
 
+-- right above every element of an accepted store but record 0's stands another
+store-rooted : (cl : Clues) (ws : List ℕ) (count : ℕ) → sizeCheck (length ws) count ≡ none → soundCheck cl count ws ≡ none → Rooted (elements count ws)
+unfolding elements records
+store-rooted cl ws zero size sound = absurd (omega (arith, size-iff (length ws) 0 .0 size .used))
+store-rooted cl ws (suc n) size sound =
+    let faultless = sound-check cl (suc n) ws .0 sound in
+    for-cons (λ e. (up : Label) (c : ℕ) → e .label ≡ up ++ (c ∷ []) → Has (elements (suc n) ws) up)
+    (λ up c f. absurd (snoc-root up c (sym f ∙ sound-root cl n ws faultless)))
+    (λ e m up c f. let p = sound-parents cl n ws faultless e m in (p .parent, p .stands, p .rightAbove ∙ ap above f ∙ above-snoc up c))
+
 -- what holds of a sound store
 store-holds : (rows : List (List ℕ)) (ws : List ℕ) (count : ℕ) → tableCheck rows ≡ none → sizeCheck (length ws) count ≡ none →
     soundCheck (cluesOf rows) count ws ≡ none → StoreHolds rows ws count
 store-holds rows ws count table size sound =
     let good = store-elements (cluesOf rows) ws count size sound in
-    let store : Stored rows ws count (rootOf ws) (elements count ws) = record {
+    let es = elements count ws in
+    let tree = store-rooted (cluesOf rows) ws count size sound in
+    let store : Stored rows ws count (rootOf ws) es = record {
       table = table;
       sound = sound;
       read = refl;
@@ -83,9 +100,14 @@ store-holds rows ws count table size sound =
       few = omega (arith, length-elements-read count ws, size-iff (length ws) count .0 size .few);
     } in
     record {
-      decodes = good .named;
-      streamed = λ t. streams-sound (cluesOf rows) (rootOf ws) t (elements count ws) good;
+      rooted = ancestor es tree;
+      decodes = decode-names good tree;
+      depths = λ e m. path-length (cluesOf rows) (rootOf ws) (e .label) (namesTo es (e .label)) (decode-names good tree e m);
+      named = good .named;
+      streamed = λ t. streams-sound (cluesOf rows) (rootOf ws) t es good;
       cutting = λ want name out room. cut-listed store want out size name room;
+      ascending = full-ascending good;
+      embeddings = λ bytes twig. full-embeddings good (readTwig bytes) tree (accepted-twig bytes twig);
       matching = match-listed store;
     }
 

@@ -3,18 +3,20 @@ use mathlib.Core.Path.{_≡_}
 use mathlib.Core.Logic.{_↔_}
 use mathlib.Core.List.{List, [], map}
 use mathlib.Core.Option.{none, some}
-use Prim.Native.Nat.{ℕ, _≤_, _-_, _*_}
+use Prim.Native.Nat.{ℕ, _≤_, _+_, _-_, _*_}
 use lib.ListN.{length, getD}
+use lib.Dec.{T}
 use Rattle.labelling.specs.Basics.{_∈_, Ascending, over, joined}
 use Rattle.labelling.specs.Limits.{labelSize}
 use Rattle.labelling.specs.Names.{Clues, cluesOf, tableCheck}
-use Rattle.labelling.specs.Labels.{Label, nameAt}
+use Rattle.labelling.specs.Labels.{Label, within, decode, path, nameAt}
 use Rattle.patterns.specs.Twigs.{Twig, twigCheck, readTwig, wanted, OneLeaf, nameCheck, leafNames}
 use Rattle.patterns.specs.Matches.{earlier, matches, Match, GoodStreams, IsMatch, PathSolution, labelsWords, matchWords}
 use Rattle.storage.specs.Store.{Element, elements, rootOf, sizeCheck, soundCheck}
 use Rattle.storage.specs.Cutting.{streams, stream, cut, Cuts, fullList, cutWords}
 use Rattle.labelling.specs.Outputs.{Listing}
 use Rattle.patterns.specs.Matching.{streamsCheck, dealt, matchCall}
+use Rattle.model.specs.Trees.{namesTo, Embedding}
 
 -- The list of matches over streams that matching takes.
 pub record ListHolds (cl : Clues) (root : ℕ) (t : Twig) (streams : List (List Label)) : Type 0 where
@@ -29,8 +31,14 @@ pub record ListHolds (cl : Clues) (root : ℕ) (t : Twig) (streams : List (List 
 
 -- What holds of a sound store and an accepted twig.
 pub record StoreHolds (rows : List (List ℕ)) (ws : List ℕ) (count : ℕ) : Type 0 where
-  -- each label decodes to its record's name, under record 0's as the root's
-  pub decodes : (e : Element) → e ∈ elements count ws → nameAt (cluesOf rows) (rootOf ws) (e .label) ≡ some (e .name)
+  -- whatever is above an element is an element
+  pub rooted : (e : Element) → e ∈ elements count ws → (up : Label) → T (within up (e .label)) → (a : Element) × a ∈ elements count ws × (a .label ≡ up)
+  -- each label decodes to the names on its way, under record 0's as the root's
+  pub decodes : (e : Element) → e ∈ elements count ws → decode (cluesOf rows) (rootOf ws) (e .label) ≡ path (namesTo (elements count ws) (e .label))
+  -- the names on its way are as many as its depth and one more
+  pub depths : (e : Element) → e ∈ elements count ws → length (namesTo (elements count ws) (e .label)) ≡ length (e .label) + 1
+  -- the last of these names is its record's
+  pub named : (e : Element) → e ∈ elements count ws → nameAt (cluesOf rows) (rootOf ws) (e .label) ≡ some (e .name)
   -- the streams cut from it ascend, and each label decodes to the name asked for
   pub streamed : (t : Twig) → GoodStreams (cluesOf rows) (rootOf ws) t (streams t (elements count ws))
   -- cutting with room enough gives the labels that a name asks for
@@ -38,6 +46,12 @@ pub record StoreHolds (rows : List (List ℕ)) (ws : List ℕ) (count : ℕ) : T
       (want : ℕ) → nameCheck want 0 ≡ none → (out : List ℕ) → length (labelsWords (stream want (elements count ws))) ≤ length out →
       cut rows ws count want out ≡
       record { refusal = none; count = length (stream want (elements count ws)); output = over (labelsWords (stream want (elements count ws))) out }
+  -- the full list is strictly ascending
+  pub ascending : (t : Twig) → Ascending earlier (fullList (cluesOf rows) (rootOf ws) t (elements count ws))
+  -- the full list holds the embeddings into the store's tree, and nothing else
+  pub embeddings :
+      (bytes : List ℕ) → twigCheck bytes ≡ none → (m : Match) →
+      m ∈ fullList (cluesOf rows) (rootOf ws) (readTwig bytes) (elements count ws) ↔ Embedding (readTwig bytes) (elements count ws) m
   -- the streams cut from it are accepted, and matching them with room enough lists the full list
   pub matching :
       (bytes : List ℕ) → twigCheck bytes ≡ none → (cuts : List Listing) → Cuts rows ws count (leafNames (wanted (readTwig bytes))) cuts →

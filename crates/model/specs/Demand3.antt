@@ -11,15 +11,16 @@ use Rattle.labelling.specs.Limits.{labelSize, recordSize}
 use Rattle.labelling.specs.Refusals.{Refusal}
 use Rattle.labelling.specs.Names.{cluesOf, placeIn, tableCheck}
 use Rattle.labelling.specs.Numbers.{Least}
-use Rattle.labelling.specs.Labels.{Label, within, same, labelOf, labelWords, namesIn, path, decodeCall}
-use Rattle.patterns.specs.Twigs.{readTwig, twigCheck, nameCheck, wanted, leafNames}
-use Rattle.patterns.specs.Matches.{labelsWords, matchWords, less}
+use Rattle.labelling.specs.Labels.{Label, within, same, labelOf, labelWords, namesIn, decode, path, decodeCall}
+use Rattle.patterns.specs.Twigs.{Twig, readTwig, twigCheck, nameCheck, wanted, leafNames}
+use Rattle.patterns.specs.Matches.{Match, earlier, labelsWords, matchWords, less}
 use Rattle.storage.specs.Store.{sizeCheck}
 use Rattle.storage.specs.Updates.{given, newStore}
 use Rattle.labelling.specs.Outputs.{Listing}
 use Rattle.storage.specs.Cutting.{stream, cut, Cuts, fullList, cutWords}
 use Rattle.patterns.specs.Matching.{matchCall}
 use Rattle.model.specs.Book.{Line, Book, Call, entry, deletion, lineElement, lineAt, sooner, inOrder, bookElements, bookWords, bookRefusal, bookAfter, childLine, answer, Run, rootLine}
+use Rattle.model.specs.Trees.{Embedding}
 
 -- What holds after the list of calls.
 pub record Held (rows : List (List ℕ)) (root : ℕ) (w : List ℕ) (n : ℕ) (b : Book) (g : List Label) : Type 0 where
@@ -33,7 +34,11 @@ pub record Held (rows : List (List ℕ)) (root : ℕ) (w : List ℕ) (n : ℕ) (
   pub once : (i j : ℕ) → i < j → j < length g → getD g i [] ≡ getD g j [] → ⊥
   -- the labels of the lines were given out
   pub givenLines : (x : Line) → x ∈ b → x .label ∈ g
-  -- decoding a line's label gives its path
+  -- a line's label decodes to its path
+  pub paths : (x : Line) → x ∈ b → decode (cluesOf rows) root (x .label) ≡ path (x .names)
+  -- a line's path has one name more than its label has components
+  pub depths : (x : Line) → x ∈ b → length (x .names) ≡ length (x .label) + 1
+  -- decoding a line's label, as a call, answers its path
   pub decodes : (x : Line) → x ∈ b → decodeCall rows root (labelWords (x .label)) ≡ record { refusal = none; names = namesIn (path (x .names)) }
   -- cutting from the slice, with room enough, gives the line labels that a name asks for
   pub cutting :
@@ -41,6 +46,12 @@ pub record Held (rows : List (List ℕ)) (root : ℕ) (w : List ℕ) (n : ℕ) (
       (out : List ℕ) → length (labelsWords (stream want (bookElements b))) ≤ length out →
       cut rows slice n want out ≡
       record { refusal = none; count = length (stream want (bookElements b)); output = over (labelsWords (stream want (bookElements b))) out }
+  -- the full list is strictly ascending
+  pub ascending : (t : Twig) → Ascending earlier (fullList (cluesOf rows) root t (bookElements b))
+  -- the full list holds the embeddings into the tree of living elements, and nothing else
+  pub embeddings :
+      (bytes : List ℕ) → twigCheck bytes ≡ none → (m : Match) →
+      m ∈ fullList (cluesOf rows) root (readTwig bytes) (bookElements b) ↔ Embedding (readTwig bytes) (bookElements b) m
   -- streams cut from the slice and matched with room enough give the full list
   pub matching :
       (slice : List ℕ) → take (recordSize * n) slice ≡ w → (bytes : List ℕ) → twigCheck bytes ≡ none →
@@ -69,7 +80,9 @@ pub record EntryHolds (rows : List (List ℕ)) (root n : ℕ) (b after : Book) (
   -- the line added is new, and the entry answered its label
   pub added : childLine parent num name p0 p1 ∈ after
   pub answered : answer rows slice n (entry lw name p0 p1) .label ≡ labelWords (parent .label ++ (num ∷ []))
-  -- decoding it gives its path
+  -- the new label decodes to the parent's path followed by the name
+  pub newPath : decode (cluesOf rows) root (parent .label ++ (num ∷ [])) ≡ path (parent .names ++ (name ∷ []))
+  -- decoding the label answered, as a call, answers that path
   pub decoded :
       decodeCall rows root (answer rows slice n (entry lw name p0 p1) .label) ≡
       record { refusal = none; names = namesIn (path (parent .names ++ (name ∷ []))) }

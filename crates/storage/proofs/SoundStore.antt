@@ -217,7 +217,7 @@ module _ (cl : Clues) (root : ℕ) (es : List Element) where
       (sound-rest rs (readElement r) (previous ∷ done) (for-cons Named n d) (λ x s. m x (there s)) e′)
 
 -- the root decodes to the root's name
-name-root : (cl : Clues) (root : ℕ) → nameAt cl root [] ≡ some root
+pub name-root : (cl : Clues) (root : ℕ) → nameAt cl root [] ≡ some root
 unfolding nameAt endOf decode last
 name-root cl root = refl
 
