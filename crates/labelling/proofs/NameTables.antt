@@ -2,7 +2,7 @@
 use mathlib.Core.Path.{_≡_, refl, sym, ap, subst, _∙_}
 use mathlib.Core.Logic.{_↔_, _⊎_, inl, inr, ⊎-elim, by-cases}
 use mathlib.Core.Bool.{Bool, true, false, cond, _&&_, not}
-use mathlib.Core.List.{List, [], _∷_}
+use mathlib.Core.List.{List, [], _∷_, cons-ne-nil}
 use mathlib.Core.Option.{Option, none, some, Option·map, Option·none-ne-some, Option·some-ne-none, map-eq-none-iff}
 use Prim.Native.Nat.{ℕ, zero, suc, _+_, _-_, _≤_, _<_}
 use native.Mathlib.Decide.{decLt}
@@ -14,7 +14,7 @@ use lib.Dec.{T, eqb, eqb-refl, leb→le, le→leb}
 use Rattle.labelling.specs.Basics.{_∈_, all}
 use Rattle.labelling.specs.Limits.{maxName, filler}
 use Rattle.labelling.specs.Refusals.{badTable}
-use Rattle.labelling.specs.Names.{placeIn, isName, namesOf, cluesOf, twice, goodRow, tableCheck}
+use Rattle.labelling.specs.Names.{placeIn, led, isName, namesOf, cluesOf, twice, goodRow, tableCheck}
 use Rattle.labelling.proofs.Tests.{and-iff, is-true, is-false, eqb-alike, Tells, passes, fails, eq?}
 use Rattle.labelling.proofs.Lists.{here, there, here-or-there, nowhere, all-at, member-at}
 use Rattle.labelling.proofs.Refusals.{check-none, check-passed}
@@ -186,3 +186,9 @@ clue-names rows h p c m =
     let (i, q, e) = member-at 0 (namesOf row) c .0 m in
     let d : getD row i 0 ≡ c = sym (names-begin row .alike i q) ∙ e in
     rw (← d) (row-tests row .0 (clue-row rows h p) .0 i q)
+
+-- a component leads nowhere exactly from an empty clue
+pub led-none : (clue : List ℕ) (x : ℕ) → led clue x ≡ none ↔ (clue ≡ [])
+unfolding led
+led-none [] x = (λ e. refl, λ e. refl)
+led-none (c ∷ cs) x = (λ e. absurd (Option·some-ne-none _ e), λ e. absurd (cons-ne-nil c cs e))

@@ -12,6 +12,7 @@ pub mod MatchWords
 -- Streams in a buffer.
 pub mod Buffers
 pub mod StreamChecks
+pub mod StreamFacts
 -- Examples.
 pub mod Computing
 pub mod Examples

@@ -43,6 +43,7 @@ matchRefusals =
     ∷ is (shown (matchCall lineTable 0 oneTwig [] [] [] .refusal)) (20 ∷ 0 ∷ [])
     ∷ is (shown (matchCall lineTable 0 oneTwig (1 ∷ 0 ∷ []) (labelsWords ((0 ∷ []) ∷ [])) [] .refusal)) (20 ∷ 0 ∷ [])
     ∷ is (shown (matchCall lineTable 0 oneTwig (2 ∷ []) (labelsWords ((0 ∷ []) ∷ [])) [] .refusal)) (20 ∷ 0 ∷ [])
+    ∷ is (shown (matchCall lineTable 0 oneTwig (4097 ∷ []) [] [] .refusal)) (20 ∷ 0 ∷ [])
     ∷ is (shown (matchCall lineTable 0 oneTwig (3 ∷ []) (labelsWords ((0 ∷ []) ∷ (2 ∷ []) ∷ (1 ∷ []) ∷ [])) [] .refusal)) (20 ∷ 2 ∷ [])
     ∷ is (shown (matchCall lineTable 0 oneTwig (3 ∷ []) (labelsWords ((0 ∷ []) ∷ (2 ∷ []) ∷ (2 ∷ []) ∷ [])) [] .refusal)) (20 ∷ 2 ∷ [])
     ∷ is (shown (matchCall lineTable 0 oneTwig (2 ∷ []) (labelsWords ((0 ∷ []) ∷ (0 ∷ 0 ∷ []) ∷ [])) [] .refusal)) (20 ∷ 1 ∷ [])
