@@ -1,6 +1,6 @@
 -- The files of the program that prints: their lengths, and what an accepted one holds.
 use mathlib.Core.Path.{_≡_, refl}
-use mathlib.Core.Logic.{_↔_}
+use mathlib.Core.Logic.{_↔_, Iff·trans}
 use mathlib.Core.Bool.{_&&_}
 use mathlib.Core.List.{[], _∷_, List}
 use mathlib.Core.Option.{none}
@@ -13,18 +13,20 @@ use Rattle.labelling.specs.Limits.{maxBytes, recordSize}
 use Rattle.labelling.specs.Refusals.{shortOutput, storeSize}
 use Rattle.storage.specs.Store.{sizeCheck}
 use Rattle.model.specs.Printing.{bufferCheck, fileCount, fileWords, storeFileCheck}
+use Rattle.model.specs.Printable.{StoreLength}
 use Rattle.model.specs.Bench.{wordBytes}
 use Rattle.labelling.proofs.Tests.{and-facts, eqb-alike}
 use Rattle.labelling.proofs.Refusals.{check-iff}
 use Rattle.storage.proofs.Sizes.{size-iff}
 
 -- a store's file is accepted by its length exactly if that is not 0, at most 64,000 and a multiple of 40
-pub storeFile-iff : (len : ℕ) → storeFileCheck len ≡ none ↔ (((0 < len) × (len ≤ maxBytes)) × (len % (2 * recordSize) ≡ 0))
+pub storeFile-iff : (len : ℕ) → storeFileCheck len ≡ none ↔ StoreLength len
 unfolding storeFileCheck
-storeFile-iff len =
-    check-iff _ storeSize 0 (and-facts (ltb 0 len && leb len maxBytes) (eqb (len % (2 * recordSize)) 0)
+storeFile-iff len = Iff·trans
+    (check-iff _ storeSize 0 (and-facts (ltb 0 len && leb len maxBytes) (eqb (len % (2 * recordSize)) 0)
     (and-facts (ltb 0 len) (leb len maxBytes) (ltb→lt 0 len, lt→ltb 0 len) (leb→le len maxBytes, le→leb len maxBytes))
-    (eqb-alike (len % (2 * recordSize)) 0))
+    (eqb-alike (len % (2 * recordSize)) 0)))
+    (λ h. record { positive = h .0 .0; small = h .0 .1; whole = h .1 }, λ s. ((s .positive, s .small), s .whole))
 
 -- words fit a buffer exactly if they take at most 64,000 bytes
 pub buffer-iff : (ws : List ℕ) → bufferCheck ws ≡ none ↔ (2 * length ws ≤ maxBytes)
@@ -48,7 +50,7 @@ fileWords-wordBytes (w ∷ ws) = let e : w % 256 + 256 * (w / 256) ≡ w = omega
 pub storeFile-sized : (store : List ℕ) → storeFileCheck (length store) ≡ none → sizeCheck (length (fileWords store)) (fileCount store) ≡ none
 unfolding fileCount
 storeFile-sized store e =
-    let ((positive, small), whole) = storeFile-iff (length store) .0 e in
+    let sized = storeFile-iff (length store) .0 e in
     let (low, high) = length-fileWords store in
     let count : ℕ = length store / (2 * recordSize) in
     let bytes : length store ≡ 2 * recordSize * count = omega arith in

@@ -28,19 +28,19 @@ module _ (len : ℕ) {v : Verdict} (is : v ≡ verdictOf (refuse storeSize 0)) w
 
   -- an empty file
   pub file-empty : len ≡ 0 → v ≡ verdictOf (storeFileCheck len)
-  file-empty e = file-refused (λ h. omega (arith, storeFile-iff len .0 h .0 .0))
+  file-empty e = file-refused (λ h. omega (arith, storeFile-iff len .0 h .positive))
 
   -- one of more than 64,000 bytes
   pub file-long : maxBytes < len → v ≡ verdictOf (storeFileCheck len)
-  file-long h = file-refused (λ k. omega (arith, storeFile-iff len .0 k .0 .1))
+  file-long h = file-refused (λ k. omega (arith, storeFile-iff len .0 k .small))
 
   -- one whose last record is cut short
   pub file-uneven : (len % (2 * recordSize) ≡ 0 → ⊥) → v ≡ verdictOf (storeFileCheck len)
-  file-uneven h = file-refused (λ k. h (storeFile-iff len .0 k .1))
+  file-uneven h = file-refused (λ k. h (storeFile-iff len .0 k .whole))
 
 -- any other is accepted
 pub file-whole : (len : ℕ) → (len ≡ 0 → ⊥) → len ≤ maxBytes → len % (2 * recordSize) ≡ 0 → verdict.Passed ≡ verdictOf (storeFileCheck len)
-file-whole len some few whole = ap verdictOf (sym (storeFile-iff len .1 ((omega arith, few), whole)))
+file-whole len some few whole = ap verdictOf (sym (storeFile-iff len .1 (record { positive = omega arith; small = few; whole = whole })))
 
 -- word i of a file stands at two bytes, the low one first
 fileWords-at : (bytes : List ℕ) (i : ℕ) → 2 * i + 1 < length bytes → getD (fileWords bytes) i 0 ≡ getD bytes (2 * i) 0 + 256 * getD bytes (2 * i + 1) 0

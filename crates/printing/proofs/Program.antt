@@ -25,7 +25,7 @@ use Rattle.printing.proofs.Printed.{prints-as, printed-on, printed-refu
 
 -- a store's file that is accepted has its words in an array of 32,000
 pub file-room : (len : ℕ) {v : Verdict} → v ≡ verdictOf (storeFileCheck len) → v ≡ verdict.Passed → len ≤ 2 * length {A = ℕ} (replicate 32000 0)
-file-room len is e = omega (arith, storeFile-iff len .0 (passed-none _ is e) .0 .1, length-replicate {A = ℕ} 32000 0)
+file-room len is e = omega (arith, storeFile-iff len .0 (passed-none _ is e) .small, length-replicate {A = ℕ} 32000 0)
 
 -- the words of a store's file
 module _ (store : List ℕ) where
