@@ -9,9 +9,9 @@ use lib.ListN.{length, length-map, length-append, replicate, length-replicate}
 use lib.Dec.{leb→le}
 use Rattle.labelling.specs.Basics.{elim?}
 use Rattle.labelling.specs.Limits.{labelSize, maxDepth, recordSize}
-use Rattle.labelling.specs.Refusals.{Refusal}
+use Rattle.labelling.specs.Refusals.{Refusal, refused, reply}
 use Rattle.labelling.specs.Names.{Clues, cluesOf}
-use Rattle.labelling.specs.Labels.{decodeCall, decodeRefusal, Label, labelOf, within, Decoding, labelCheck, namesIn, Decoded, decode, path, stuck}
+use Rattle.labelling.specs.Labels.{decodeCall, kinshipCall, followsCall, decodeRefusal, Label, labelOf, within, Decoding, labelCheck, namesIn, Decoded, decode, path, stuck}
 use Rattle.storage.specs.Store.{sizeCheck, elementAt, soundCheck, Element, elements, find, storeWords, elementWords}
 use Rattle.storage.specs.Updates.{Answer, delete, enter, entered, newStore, parentCheck, deletionRefusal, entryRefusal, newStoreRefusal, raised, given, without}
 use Rattle.labelling.specs.Outputs.{listed, roomCheck}
@@ -20,13 +20,15 @@ use Rattle.patterns.specs.Matching.{matchCall, matchRefusal}
 use Rattle.model.specs.Demand1.{Demand1}
 use Rattle.labelling.proofs.Lists.{keep-iff, length-keep, for-map}
 use Rattle.labelling.proofs.Refusals.{first-none, check-none}
-use Rattle.labelling.proofs.NameFiles.{refused-table, file-table, file-size, file-rows}
+use Rattle.labelling.proofs.NameFiles.{read-refusal, refused-table, file-table, file-size, file-rows}
 use Rattle.labelling.proofs.Decode.{starts}
 use Rattle.labelling.proofs.LabelWords.{labelOf-good}
 use Rattle.storage.proofs.Words.{Fit, length-elementWords, length-storeWords}
-use Rattle.labelling.proofs.Outputs.{length-over, take-over, drop-over, listed-refused}
+use Rattle.labelling.proofs.Outputs.{length-over, take-over, drop-over, listed-refused, listed-refusal}
 use Rattle.storage.proofs.Sizes.{length-placed, slice-iff, placed-only, length-elements-read, space-iff, size-iff}
 use Rattle.storage.proofs.Parents.{parentCheck-iff}
+use Rattle.storage.proofs.Updates.{refusal-of}
+use Rattle.model.proofs.RefusedBy.{file-by, decoding-by, labels-by, new-store-by, entry-by, deletion-by, cut-by, match-by, print-by}
 use Rattle.model.proofs.Demand2.{store-elements}
 
 -- an answer that hangs on its refusal is, where it is refused, the refused one
@@ -35,6 +37,22 @@ refused-is : {A : Type 0} (refusal : A → Option Refusal) (o : Option Refusal) 
 unfolding elim?
 refused-is refusal none a f h k r e = absurd (Option·none-ne-some r (sym h ∙ e))
 refused-is refusal (some q) a f h k r e = ap f (Option·some-injective q r (sym (k q) ∙ e))
+
+-- decoding refuses as its checks do
+decoding-refusal : (rows : List (List ℕ)) (root : ℕ) (lw : List ℕ) → decodeCall rows root lw .refusal ≡ decodeRefusal rows root lw
+unfolding decodeCall elim?
+decoding-refusal rows root lw = go (decodeRefusal rows root lw)
+  where
+    go : (o : Option Refusal) → elim? {B = Decoding} o (record { refusal = none; names = namesIn (decode (cluesOf rows) root (labelOf lw)) })
+        (λ r. record { refusal = some r; names = replicate labelSize 0 }) .refusal ≡ o
+    go none = refl
+    go (some r) = refl
+
+-- a call that is lent no buffer refuses as its checks do
+reply-refused : {A : Type 0} (o : Option Refusal) (a : A) (r : Refusal) → reply o a ≡ refused r → o ≡ some r
+unfolding reply
+reply-refused none a r e = absurd (let z : _≡_ {A = ℕ} 0 1 = cc in omega arith)
+reply-refused (some s) a r e = cc
 
 -- an output that holds the result keeps its length, and so does one that is refused
 length-listed : (o : Option Refusal) (count : ℕ) (ws out : List ℕ) → (o ≡ none → length ws ≤ length out) → length (listed o count ws out .output) ≡ length out
@@ -157,7 +175,7 @@ room ws out e = leb→le (length ws) (length out) (check-none _ _ _ e)
 
 -- the whole demand
 pub demand1 : Demand1
-unfolding decodeCall newStore enter delete cut cutRefusal matchCall matchRefusal
+unfolding decodeCall kinshipCall followsCall newStore enter delete cut cutRefusal matchCall matchRefusal
 demand1 = record {
   names = refused-table;
   tables = file-table;
@@ -179,4 +197,14 @@ demand1 = record {
       room _ out (first-none _ _ (first-none _ _ (first-none _ _ (first-none _ _ (first-none _ _ e .1) .1) .1) .1) .0));
   start = take-over;
   rest = drop-over;
+  namesBy = λ bytes r e. file-by bytes r (sym (read-refusal bytes) ∙ e);
+  decodingsBy = λ rows root lw r e. decoding-by rows root lw r (sym (decoding-refusal rows root lw) ∙ e);
+  kinshipBy = λ a b r e. labels-by a b r (reply-refused _ _ r e);
+  followsBy = λ a b r e. labels-by a b r (reply-refused _ _ r e);
+  newStoresBy = λ ws root p0 p1 r e. new-store-by (length ws) root r (sym (refusal-of _ _ _ refl (λ r. refl)) ∙ e);
+  entriesBy = λ rows ws count lw name p0 p1 r e. entry-by rows ws count lw name r (sym (refusal-of _ _ _ refl (λ r. refl)) ∙ e);
+  deletionsBy = λ rows ws count lw r e. deletion-by rows ws count lw r (sym (refusal-of _ _ _ refl (λ r. refl)) ∙ e);
+  cutsBy = λ rows ws count want out r e. cut-by rows ws count want out r (sym (listed-refusal _ _ _ out) ∙ e);
+  matchingsBy = λ rows root bytes counts buffer out r e. match-by rows root bytes counts buffer out r (sym (listed-refusal _ _ _ out) ∙ e);
+  printsBy = print-by;
 }

@@ -1,4 +1,4 @@
--- Demand 1 over the definitions: a refused call alters no lent buffer, and a call that is taken leaves every buffer as long as it was.
+-- Demand 1 over the definitions: a refused call alters no lent buffer, a call that is taken leaves every buffer as long as it was, and each refuses by its own numbers.
 use mathlib.Core.Path.{_≡_}
 use mathlib.Core.List.{List, []}
 use mathlib.Core.Option.{some, none}
@@ -6,12 +6,14 @@ use Prim.Native.Nat.{ℕ, _<_}
 use lib.ListN.{length, getD, replicate, take, drop}
 use Rattle.labelling.specs.Basics.{over}
 use Rattle.labelling.specs.Limits.{tableSize, labelSize}
-use Rattle.labelling.specs.Refusals.{Refusal}
+use Rattle.labelling.specs.Refusals.{Refusal, refused, nameAsked}
 use Rattle.labelling.specs.Names.{readNames, emptyTable, tableCheck}
-use Rattle.labelling.specs.Labels.{decodeCall}
+use Rattle.labelling.specs.Labels.{decodeCall, kinshipCall, followsCall}
 use Rattle.storage.specs.Updates.{newStore, enter, delete}
 use Rattle.storage.specs.Cutting.{cut}
 use Rattle.patterns.specs.Matching.{matchCall}
+use Rattle.model.specs.Printing.{printRefusal}
+use Rattle.model.specs.RefusedBy.{RefusedBy, fileNumbers, decodingNumbers, labelNumbers, newStoreNumbers, entryNumbers, deletionNumbers, cutNumbers, matchNumbers, printNumbers}
 
 pub record Demand1 : Type 0 where
   -- the reader of a refused child-name file returns a table of empty clues; whatever it returns is an accepted table of 64 rows of 64
@@ -49,3 +51,18 @@ pub record Demand1 : Type 0 where
   -- what is written is written from the start, and past it nothing is touched
   pub start : (ws out : List ℕ) → take (length ws) (over ws out) ≡ ws
   pub rest : (ws out : List ℕ) → drop (length ws) (over ws out) ≡ drop (length ws) out
+  -- every refusal is by one of the call's numbers, at 0 where the number tells no place; cutting's 7 is at 0 too
+  pub namesBy : (bytes : List ℕ) (r : Refusal) → readNames bytes .refusal ≡ some r → RefusedBy fileNumbers r
+  pub decodingsBy : (rows : List (List ℕ)) (root : ℕ) (lw : List ℕ) (r : Refusal) → decodeCall rows root lw .refusal ≡ some r → RefusedBy decodingNumbers r
+  pub kinshipBy : (a b : List ℕ) (r : Refusal) → kinshipCall a b ≡ refused r → RefusedBy labelNumbers r
+  pub followsBy : (a b : List ℕ) (r : Refusal) → followsCall a b ≡ refused r → RefusedBy labelNumbers r
+  pub newStoresBy : (ws : List ℕ) (root p0 p1 : ℕ) (r : Refusal) → newStore ws root p0 p1 .refusal ≡ some r → RefusedBy newStoreNumbers r
+  pub entriesBy : (rows : List (List ℕ)) (ws : List ℕ) (count : ℕ) (lw : List ℕ) (name p0 p1 : ℕ) (r : Refusal) →
+      enter rows ws count lw name p0 p1 .refusal ≡ some r → RefusedBy entryNumbers r
+  pub deletionsBy : (rows : List (List ℕ)) (ws : List ℕ) (count : ℕ) (lw : List ℕ) (r : Refusal) →
+      delete rows ws count lw .refusal ≡ some r → RefusedBy deletionNumbers r
+  pub cutsBy : (rows : List (List ℕ)) (ws : List ℕ) (count want : ℕ) (out : List ℕ) (r : Refusal) →
+      cut rows ws count want out .refusal ≡ some r → RefusedBy cutNumbers r × (r .number ≡ nameAsked → r .place ≡ 0)
+  pub matchingsBy : (rows : List (List ℕ)) (root : ℕ) (bytes counts buffer out : List ℕ) (r : Refusal) →
+      matchCall rows root bytes counts buffer out .refusal ≡ some r → RefusedBy matchNumbers r
+  pub printsBy : (names store twig : List ℕ) (r : Refusal) → printRefusal names store twig ≡ some r → RefusedBy printNumbers r
