@@ -1,13 +1,16 @@
 -- Decoding, one component more at the end or in front.
-use mathlib.Core.Path.{_≡_, refl, sym, ap, _∙_}
+use mathlib.Core.Path.{_≡_, refl, sym, ap, subst, _∙_}
+use mathlib.Core.Logic.{_↔_}
 use mathlib.Core.List.{List, [], _∷_, _++_, append-nil, append-assoc}
 use mathlib.Core.Option.{Option, none, some}
-use Prim.Native.Nat.{ℕ, suc, _+_, _-_, _≤_}
+use Prim.Native.Nat.{ℕ, zero, suc, _+_, _-_, _≤_, _<_}
 use native.Mathlib.Omega.{arith}
-use lib.ListN.{length, take}
+use lib.ListN.{length, getD, take, drop, take-append-drop}
+use lib.Seq.{drop-cons, length-take-le}
 use Rattle.labelling.specs.Basics.{elim?, last}
 use Rattle.labelling.specs.Names.{Clues, led}
 use Rattle.labelling.specs.Labels.{Label, Decoded, path, stuck, behind, decode, endOf, nameAt}
+use Rattle.labelling.proofs.NameTables.{led-none}
 use Rattle.labelling.proofs.LabelOrder.{last-snoc}
 
 -- what a label decodes to, led on by one component more
@@ -152,3 +155,56 @@ name-cons cl p x c l e = rw e (go (decode cl c l) (starts cl c l))
 -- a path has one name more than its label has components
 pub path-length : (cl : Clues) (p : ℕ) (l : Label) (ns : List ℕ) → decode cl p l ≡ path ns → length ns ≡ length l + 1
 path-length cl p l ns e = let (rest, f, n) = starts cl p l .begins ns e in omega (arith, ap length f)
+
+-- the fact of refusal 16 for the component with j before it: those lead to a name with an empty clue
+pub record BelowEmpty (cl : Clues) (p : ℕ) (l : Label) (j : ℕ) : Type 0 where
+  pub inside : j < length l
+  pub names : List ℕ
+  pub reached : decode cl p (take j l) ≡ path names
+  pub empty : cl (last names) ≡ []
+
+-- a component behind one that leads to a name stands as it does below that name
+below-later : (cl : Clues) (p c x : ℕ) (l : Label) (j : ℕ) → led (cl p) x ≡ some c → BelowEmpty cl c l j → BelowEmpty cl p (x ∷ l) (suc j)
+unfolding decode behind elim?
+below-later cl p c x l j d b = record {
+  inside = omega (arith, b .inside);
+  names = p ∷ b .names;
+  reached = rw (d, b .reached);
+  empty = let (rest, e, n) = starts cl c (take j l) .begins (b .names) (b .reached) in rw (e, last-cons p c rest, ← e) (b .empty);
+}
+
+-- a label that is stuck is so at a component below a name with an empty clue
+stuck-below : (cl : Clues) (p : ℕ) (l : Label) (j : ℕ) → decode cl p l ≡ stuck (suc j) → BelowEmpty cl p l j
+unfolding decode behind elim? last
+stuck-below cl p [] j e = absurd (stuck-path (sym e))
+stuck-below cl p (x ∷ l) j e = go (led (cl p) x) refl (λ c k. stuck-below cl c l k) e
+  where
+    later : (c : ℕ) (d : Decoded) → led (cl p) x ≡ some c → Starts c l d → ((k : ℕ) → d ≡ stuck (suc k) → BelowEmpty cl c l k) →
+        (k : ℕ) → behind p d ≡ stuck (suc k) → BelowEmpty cl p (x ∷ l) k
+    later c (path ns) d s ih k e = absurd (stuck-path (sym e))
+    later c (stuck i) d s ih zero e = let f : suc i ≡ 1 = cc in absurd (omega (arith, s .stops i refl .0))
+    later c (stuck i) d s ih (suc k) e = let f : i ≡ suc k = cc in below-later cl p c x l k d (ih k (ap stuck f))
+
+    go : (o : Option ℕ) → led (cl p) x ≡ o → ((c k : ℕ) → decode cl c l ≡ stuck (suc k) → BelowEmpty cl c l k) →
+        elim? o (stuck 1) (λ c. behind p (decode cl c l)) ≡ stuck (suc j) → BelowEmpty cl p (x ∷ l) j
+    go none d ih e =
+        let z : 0 ≡ j = cc in
+        subst (BelowEmpty cl p (x ∷ l)) z (record { inside = omega arith; names = p ∷ []; reached = refl; empty = led-none (cl p) x .0 d })
+    go (some c) d ih e = later c (decode cl c l) d (starts cl c l) (ih c) j e
+
+-- a component below a name with an empty clue is where its label is stuck
+below-stuck : (cl : Clues) (p : ℕ) (l : Label) (j : ℕ) → BelowEmpty cl p l j → decode cl p l ≡ stuck (suc j)
+unfolding further elim?
+below-stuck cl p l j b =
+    let (rest, e, n) = starts cl p (take j l) .begins (b .names) (b .reached) in
+    let x = getD l j 0 in
+    let long : length (b .names) ≡ suc j = omega (arith, ap length e, length-take-le j l (omega (arith, b .inside))) in
+    let whole : (take j l ++ (x ∷ [])) ++ drop (suc j) l ≡ l =
+    append-assoc (take j l) (x ∷ []) (drop (suc j) l) ∙ ap (λ m. take j l ++ m) (sym (drop-cons l j 0 (b .inside))) ∙ take-append-drop j l in
+    let here : decode cl p (take j l ++ (x ∷ [])) ≡ stuck (suc j) =
+    decode-snoc cl p (take j l) x ∙ rw (b .reached, led-none (cl (last (b .names))) x .1 (b .empty), long) refl in
+    sym (ap (decode cl p) whole) ∙ stuck-more cl p (take j l ++ (x ∷ [])) (drop (suc j) l) (suc j) here
+
+-- a label is stuck at a component, counted from 1, exactly if that is the first below a name with an empty clue
+pub stuck-iff : (cl : Clues) (p : ℕ) (l : Label) (j : ℕ) → decode cl p l ≡ stuck (suc j) ↔ BelowEmpty cl p l j
+stuck-iff cl p l j = (stuck-below cl p l j, below-stuck cl p l j)

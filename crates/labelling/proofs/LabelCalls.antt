@@ -1,18 +1,21 @@
 -- What the calls on labels alone answer.
-use mathlib.Core.Path.{_≡_, refl}
+use mathlib.Core.Path.{_≡_, refl, sym, ap, _∙_}
+use mathlib.Core.Logic.{_↔_}
 use mathlib.Core.Bool.{Bool, true, false}
 use mathlib.Core.List.{List, [], _∷_}
-use mathlib.Core.Option.{none, Option, some}
-use Prim.Native.Nat.{ℕ, _≤_}
+use mathlib.Core.Option.{none, Option, some, Option·none-ne-some, Option·some-ne-none, Option·some-injective}
+use Prim.Native.Nat.{ℕ, zero, suc, _≤_}
+use native.Mathlib.Omega.{arith}
 use lib.ListN.{replicate}
-use lib.Dec.{T, le→leb}
+use lib.Dec.{T, leb→le, le→leb}
 use Rattle.labelling.specs.Basics.{elim?}
 use Rattle.labelling.specs.Limits.{maxName, labelSize}
 use Rattle.labelling.specs.Refusals.{check, first, notLabel, value, refused, reply, badRoot, refuse, emptyClue, Refusal}
-use Rattle.labelling.specs.Names.{rootCheck, isName, tableCheck, cluesOf}
-use Rattle.labelling.specs.Labels.{kinship, follows, labelOf, isLabel, labelCheck, kinshipCall, followsCall, decodeCall, decodeRefusal, pathCheck, Label, decode, path, labelWords, namesIn, stuck}
-use Rattle.labelling.proofs.Refusals.{check-passed}
-use Rattle.labelling.proofs.LabelWords.{GoodLabel, labelOf-labelWords, labelWords-good}
+use Rattle.labelling.specs.Names.{Clues, rootCheck, isName, tableCheck, cluesOf}
+use Rattle.labelling.specs.Labels.{kinship, follows, labelOf, isLabel, labelCheck, kinshipCall, followsCall, decodeCall, decodeRefusal, pathCheck, Label, Decoded, decode, path, labelWords, namesIn, stuck}
+use Rattle.labelling.proofs.Refusals.{check-passed, check-iff}
+use Rattle.labelling.proofs.LabelWords.{GoodLabel, IsLabel, isLabel-iff, labelOf-labelWords, labelWords-good}
+use Rattle.labelling.proofs.Decode.{Starts, starts, stuck-path, BelowEmpty, stuck-iff}
 
 module _ {A : Type 0} (a b : List ℕ) (x : A) where
   -- a call on two labels answers its value
@@ -86,3 +89,41 @@ module _ (rows : List (List ℕ)) (root : ℕ) (l : Label) (table : tableCheck r
       decodeCall rows root (labelWords l) ≡ record { refusal = refuse emptyClue i; names = replicate labelSize 0 }
   unfolding decodeCall pathCheck elim?
   decode-stuck i e = rw (decode-refusal, labelOf-labelWords l, e)
+
+-- a root name is accepted exactly if it is at most 63
+pub rootCheck-iff : (root : ℕ) → rootCheck root ≡ none ↔ (root ≤ maxName)
+unfolding rootCheck isName
+rootCheck-iff root = check-iff (isName root) badRoot 0 (leb→le root maxName, le→leb root maxName)
+
+-- words are accepted as a label exactly if the facts of refusal 15 hold
+pub labelCheck-iff : (ws : List ℕ) → labelCheck ws ≡ none ↔ IsLabel ws
+unfolding labelCheck
+labelCheck-iff ws = check-iff (isLabel ws) notLabel 0 (isLabel-iff ws)
+
+module _ (cl : Clues) (root : ℕ) (l : Label) where
+  -- a label is accepted for decoding exactly if no component stands below a name with an empty clue
+  pub pathCheck-iff : pathCheck (decode cl root l) ≡ none ↔ ((j : ℕ) → BelowEmpty cl root l j → ⊥)
+  pathCheck-iff = go (decode cl root l) (starts cl root l) (stuck-iff cl root l)
+    where
+      go : (d : Decoded) → Starts root l d → ((j : ℕ) → d ≡ stuck (suc j) ↔ BelowEmpty cl root l j) →
+          pathCheck d ≡ none ↔ ((j : ℕ) → BelowEmpty cl root l j → ⊥)
+      go (path ns) s e = unfold pathCheck in (λ h j b. stuck-path (sym (e j .1 b)), λ h. refl)
+      go (stuck zero) s e = absurd (omega (arith, s .stops 0 refl .0))
+      go (stuck (suc j)) s e = unfold pathCheck in (λ h. absurd (Option·some-ne-none _ h), λ h. absurd (h j (e j .0 refl)))
+
+  -- it is refused exactly by 16 at the first component, counted from 1, that does
+  pub pathCheck-refused : (r : Refusal) →
+      pathCheck (decode cl root l) ≡ some r ↔ ((r .number ≡ emptyClue) × (j : ℕ) × (r .place ≡ suc j) × BelowEmpty cl root l j)
+  pathCheck-refused r = go (decode cl root l) (starts cl root l) (stuck-iff cl root l)
+    where
+      go : (d : Decoded) → Starts root l d → ((j : ℕ) → d ≡ stuck (suc j) ↔ BelowEmpty cl root l j) →
+          pathCheck d ≡ some r ↔ ((r .number ≡ emptyClue) × (j : ℕ) × (r .place ≡ suc j) × BelowEmpty cl root l j)
+      go (path ns) s e = unfold pathCheck in (λ h. absurd (Option·none-ne-some r h), λ h. absurd (stuck-path (sym (e (h .1) .1 (h .3)))))
+      go (stuck zero) s e = absurd (omega (arith, s .stops 0 refl .0))
+      go (stuck (suc i)) s e = unfold pathCheck in (
+        λ h. let d = sym (Option·some-injective _ r h) in (ap (λ (r : Refusal). r .number) d, i, ap (λ (r : Refusal). r .place) d, e i .0 refl),
+        λ h.
+            let (number, j, place, b) = h in
+            let same : i ≡ j = let f = e j .1 b in cc in
+            λ k. some (record { number = sym number k; place = (ap suc same ∙ sym place) k }),
+      )

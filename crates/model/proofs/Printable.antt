@@ -32,27 +32,27 @@ use Rattle.model.proofs.Streams.{streams-at}
 use Rattle.model.proofs.Demand2.{match-short, store-elements}
 use Rattle.model.proofs.FileStores.{storeFile-iff, storeFile-sized, buffer-iff}
 
--- the streams of some records, of which a leaf has a name and an inner record none
+-- The streams of some records, of which a leaf has a name and an inner record none.
 module _ (s : ℕ → List Label) (short : (want : ℕ) (l : Label) → l ∈ s want → length l ≤ maxDepth) where
-  -- all their labels
+  -- the labels of all streams
   abbrev labelsOf : List (Option ℕ) → List Label
   labelsOf rs = joined (map (λ r. elim? r [] s) rs)
 
-  -- each has at most 15 components
+  -- each label of the streams has at most 15 components
   all-short : (rs : List (Option ℕ)) (l : Label) → l ∈ labelsOf rs → length l ≤ maxDepth
   unfolding joined elim?
   all-short [] l m = absurd (nowhere m)
   all-short (none ∷ rs) l m = all-short rs l m
   all-short (some want ∷ rs) l m = ⊎-elim (short want l) (all-short rs l) (either-part (s want) m)
 
-  -- they are as many as those of the leaves' streams
+  -- the streams together have as many labels as those of the leaves
   all-counted : (rs : List (Option ℕ)) → length (labelsOf rs) ≡ total (counted s (leafNames rs))
   unfolding joined elim? leafNames total
   all-counted [] = refl
   all-counted (none ∷ rs) = all-counted rs
   all-counted (some want ∷ rs) = omega (arith, length-append (s want) (labelsOf rs), all-counted rs)
 
-  -- and have sixteen words each
+  -- the labels of the streams have sixteen words each
   all-words : (rs : List (Option ℕ)) → length (labelsWords (labelsOf rs)) ≡ labelSize * total (counted s (leafNames rs))
   all-words rs = length-labelsWords (labelsOf rs) (all-short rs) ∙ ap (λ n. labelSize * n) (all-counted rs)
 
@@ -86,7 +86,7 @@ module _ (names store twig : List ℕ) (sized : StoreLength (length store)) (sou
   stream-labels : (want : ℕ) (l : Label) → l ∈ stream want (fileElements store) → GoodLabel l
   stream-labels want = for-stream GoodLabel want (fileElements store) (λ e m a. elements-sound .labelled e m)
 
-  -- and so are those of the streams of a twig
+  -- the labels of a twig's streams are good
   streams-labelled : (t : Twig) (i : ℕ) (l : Label) → l ∈ getD (streams t (fileElements store)) i [] → GoodLabel l
   streams-labelled t i l m = go (ltb i (length t) && isLeaf t i) (rw streams-at at m)
     where
@@ -164,7 +164,7 @@ module _ (names store twig : List ℕ) where
         let (n, f) = buffer-refuses _ _ r matched .0 (sym (first-last _) ∙ e₅) in
         longMatches named sized sound asked (omega (arith, buffer-iff _ .0 room)) n f)))))
 
-    -- and where a fact fails, all before it holding, its refusal is given
+    -- where a fact fails, all before it holding, its refusal is given
     first-refuses : Unprintable names store twig r → printRefusal names store twig ≡ some r
     unfolding printRefusal
     first-refuses (badNames e) = first-here r _ _ e

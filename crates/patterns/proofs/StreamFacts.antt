@@ -65,7 +65,10 @@ settles-none i = inl (refl, λ j h. absurd (omega arith))
 settles-one : {P : ℕ → Type 0} (b : Bool) (i : ℕ) → T b ↔ P 0 → Settles P 1 i (check b badStream i)
 settles-one {P} b i e = ⊎-elim
     (λ t. inl (check-passed b badStream i t, λ j h. let z : 0 ≡ j = omega arith in subst P z (e .0 t)))
-    (λ n. inr (0, check-failed b badStream i n ∙ ap (refuse badStream) (let z : i ≡ i + 0 = omega arith in z), record { inside = omega arith; out = λ p. n (e .1 p); earlier = λ j h. absurd (omega arith) }))
+    (λ n.
+    let place : i ≡ i + 0 = omega arith in
+    let first-out : FirstOut P 1 0 = record { inside = omega arith; out = λ p. n (e .1 p); earlier = λ j h. absurd (omega arith) } in
+    inr (0, check-failed b badStream i n ∙ ap (refuse badStream) place, first-out))
     (decide b)
 
 -- a check by facts is one by facts that hold alike
@@ -120,7 +123,7 @@ words-later j ws =
     let s : labelSize + j * labelSize ≡ suc j * labelSize = omega arith in
     ap (take labelSize) (drop-drop (j * labelSize) labelSize ws ∙ ap (λ m. drop m ws) s)
 
--- and so is the label before it
+-- the label before a later one is the one before it among the words after the first label
 past-later : (previous : Option Label) (j : ℕ) (ws : List ℕ) → labelPast (some (labelOf (take labelSize ws))) j (drop labelSize ws) ≡ labelPast previous (suc j) ws
 unfolding labelPast
 past-later previous zero ws = refl
