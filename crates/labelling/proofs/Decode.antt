@@ -1,4 +1,4 @@
--- Decoding, one component more at the end or in front.
+-- Decoding, one component more at the end or in front, and where a label is stuck.
 use mathlib.Core.Path.{_≡_, refl, sym, ap, subst, _∙_}
 use mathlib.Core.Logic.{_↔_}
 use mathlib.Core.List.{List, [], _∷_, _++_, append-nil, append-assoc}

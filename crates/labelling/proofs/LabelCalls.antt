@@ -1,4 +1,4 @@
--- What the calls on labels alone answer.
+-- What the calls on labels alone answer, and the facts of their refusals.
 use mathlib.Core.Path.{_≡_, refl, sym, ap, _∙_}
 use mathlib.Core.Logic.{_↔_}
 use mathlib.Core.Bool.{Bool, true, false}
@@ -111,7 +111,7 @@ module _ (cl : Clues) (root : ℕ) (l : Label) where
       go (stuck zero) s e = absurd (omega (arith, s .stops 0 refl .0))
       go (stuck (suc j)) s e = unfold pathCheck in (λ h. absurd (Option·some-ne-none _ h), λ h. absurd (h j (e j .0 refl)))
 
-  -- it is refused exactly by 16 at the first component, counted from 1, that does
+  -- a label is refused for decoding exactly by 16, at the first component, counted from 1, that stands below a name with an empty clue
   pub pathCheck-refused : (r : Refusal) →
       pathCheck (decode cl root l) ≡ some r ↔ ((r .number ≡ emptyClue) × (j : ℕ) × (r .place ≡ suc j) × BelowEmpty cl root l j)
   pathCheck-refused r = go (decode cl root l) (starts cl root l) (stuck-iff cl root l)

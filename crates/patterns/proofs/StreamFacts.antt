@@ -144,7 +144,7 @@ module _ (cl : Clues) (root : ℕ) where
   abbrev pub StandsAt : List ℕ → List ℕ → List ℕ → ℕ → Type 0
   StandsAt wants counts ws i = (q k : ℕ) → Place counts i q k → StandsIn (getD wants q 0) none (drop (labelSize * total (take q counts)) ws) k
 
-  -- the check of one stream
+  -- the check of one stream settles its labels one after the other
   stream-settles : (want n i : ℕ) (previous : Option Label) (ws : List ℕ) → Settles (StandsIn want previous ws) n i (streamCheck cl root want i previous n ws)
   unfolding streamCheck labelPast
   stream-settles want zero i previous ws = settles-none i
@@ -189,7 +189,7 @@ module _ (cl : Clues) (root : ℕ) where
       there h (suc q) k at = subst (λ l. StandsIn (getD wants q 0) none l k) (behind q)
           (h q k (record { leaf = omega (arith, at .leaf); inside = at .inside; sum = omega (arith, at .sum) }))
 
-  -- the check of the streams one after the other, a count for each leaf
+  -- the check of the streams, a count for each leaf, settles the labels of the buffer one after the other
   labels-settle : (rs : List (Option ℕ)) (i : ℕ) (counts ws : List ℕ) → length counts ≡ length (leafNames rs) →
       Settles (StandsAt (leafNames rs) counts ws) (total counts) i (labelsCheck cl root i rs counts ws)
   unfolding labelsCheck leafNames total
