@@ -1,6 +1,6 @@
 -- What two labels share, how one stands to the other, and the order that follows from it.
 use mathlib.Core.Path.{_≡_, refl, sym, ap, ap₂, subst, _∙_}
-use mathlib.Core.Logic.{_↔_, Iff·rfl, _⊎_, inl, inr, ⊎-elim, ⊎-map}
+use mathlib.Core.Logic.{_↔_, _⊎_, inl, inr, ⊎-elim, ⊎-map}
 use mathlib.Core.Bool.{Bool, true, false, cond}
 use mathlib.Core.List.{[], _∷_, _++_, append-nil}
 use Prim.Native.Nat.{ℕ, suc, _+_, _≤_, suc-le-suc}
@@ -10,7 +10,7 @@ use lib.Seq.{length-take-le}
 use lib.Dec.{T, eqb, eqb→eq, eqb·suc-zero}
 use Rattle.labelling.specs.Labels.{Label, before, shared, within, kinship, follows}
 use Rattle.labelling.proofs.Tests.{decide, is-true, is-false, test-equal, eqb-alike, Tells, passes, fails, eq?}
-use Rattle.labelling.proofs.LabelOrder.{before-order, before-more, within-iff, within-self}
+use Rattle.labelling.proofs.LabelOrder.{before-order, before-more, within-iff, within-self, Precedes, precedes-iff}
 
 -- two labels are alike as far as they share components
 pub shared-alike : (l m : Label) → take (shared l m) l ≡ take (shared l m) m
@@ -174,10 +174,10 @@ kinship-says l m = go (decide (within l m)) (decide (within m l))
 pub kin-iff : (l m : Label) (k : ℕ) → Kin l m k ↔ (kinship l m ≡ k)
 kin-iff l m k = (kinship-of, λ e. subst (Kin l m) e (kinship-says l m))
 
--- a label follows another exactly if the other comes before it
-pub follows-iff : (l m : Label) → T (follows l m) ↔ T (before m l)
+-- a label follows another exactly if it goes on from the other or is greater at the first component where they differ
+pub follows-iff : (l m : Label) → T (follows l m) ↔ Precedes m l
 unfolding follows
-follows-iff l m = Iff·rfl
+follows-iff l m = precedes-iff m l
 
 -- of two labels one follows the other, or they are equal
 pub follows-one : (l m : Label) → T (follows l m) ⊎ (l ≡ m) ⊎ T (follows m l)

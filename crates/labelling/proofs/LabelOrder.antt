@@ -1,13 +1,13 @@
 -- Label order and ancestry.
 use mathlib.Core.Path.{_≡_, refl, sym, ap, subst, _∙_}
-use mathlib.Core.Logic.{_↔_, _⊎_, inr, ⊎-elim, ⊎-map}
+use mathlib.Core.Logic.{_↔_, _⊎_, inl, inr, ⊎-elim, ⊎-map}
 use mathlib.Core.Bool.{Bool, true, false, cond, _&&_}
 use mathlib.Core.List.{[], _∷_, _++_, append-nil, append-assoc}
 use Prim.Native.Nat.{ℕ, suc, _-_, _<_}
 use native.Mathlib.Omega.{arith}
 use lib.ListN.{length, take, length-append}
 use lib.Seq.{take-suc, take-length, take-at, getD-at}
-use lib.Dec.{T, ltb, eqb, eqb-refl, eqb·zero-suc, eqb·suc-suc}
+use lib.Dec.{T, ltb, eqb, eqb-refl, eqb·zero-suc, eqb·suc-suc, ltb→lt, lt→ltb}
 use Rattle.labelling.specs.Basics.{last}
 use Rattle.labelling.specs.Labels.{Label, before, shared, within, same, above}
 use Rattle.labelling.proofs.Tests.{and-iff, Alike, eqb-alike, Tells, tells}
@@ -106,6 +106,36 @@ pub before-more : (up : Label) (x : ℕ) (rest : Label) → T (before up (up ++ 
 unfolding before
 before-more [] x rest = tt
 before-more (y ∷ up) x rest = before-iff y y up (up ++ x ∷ rest) .1 (inr (refl, before-more up x rest))
+
+-- label order without a test: the second label goes on from the first, or is greater at the first component where they differ
+pub data Precedes (l m : Label) : Type 0 where
+  goes-on : (x : ℕ) (rest : Label) → m ≡ l ++ (x ∷ rest) → Precedes l m
+  greater : (p : Label) (x y : ℕ) (r s : Label) → x < y → l ≡ p ++ (x ∷ r) → m ≡ p ++ (y ∷ s) → Precedes l m
+
+-- labels with an equal first component precede each other as what follows it
+precedes-cons : {x y : ℕ} {l m : Label} → x ≡ y → Precedes l m → Precedes (x ∷ l) (y ∷ m)
+precedes-cons {y} d (goes-on z rest e) = goes-on z rest (cc)
+precedes-cons {y} d (greater p a b r s h e f) = greater (y ∷ p) a b r s h (cc) (cc)
+
+-- a label that is greater at the first component where two differ comes later
+before-greater : (p : Label) (x y : ℕ) (r s : Label) → x < y → T (before (p ++ (x ∷ r)) (p ++ (y ∷ s)))
+before-greater [] x y r s h = before-iff x y r s .1 (inl (lt→ltb x y h))
+before-greater (z ∷ p) x y r s h = before-iff z z (p ++ (x ∷ r)) (p ++ (y ∷ s)) .1 (inr (refl, before-greater p x y r s h))
+
+-- a label comes before another exactly if it precedes it
+pub precedes-iff : (l m : Label) → T (before l m) ↔ Precedes l m
+precedes-iff l m = (told l m, says)
+  where
+    told : (l m : Label) → T (before l m) → Precedes l m
+    told [] [] h = absurd (before-order .never [] h)
+    told [] (y ∷ m) h = goes-on y m refl
+    told (x ∷ l) [] h = absurd (omega (arith, before-nonroot (x ∷ l) [] h))
+    told (x ∷ l) (y ∷ m) h =
+        ⊎-elim (λ k. greater [] x y l m (ltb→lt x y k) refl refl) (λ k. precedes-cons (k .0) (told l m (k .1))) (before-iff x y l m .0 h)
+
+    says : Precedes l m → T (before l m)
+    says (goes-on x rest e) = rw e (before-more l x rest)
+    says (greater p x y r s h e f) = rw (e, f) (before-greater p x y r s h)
 
 -- what comes before a label comes before all that go on from it
 pub before-extend : (l m rest : Label) → T (before l m) → T (before l (m ++ rest))

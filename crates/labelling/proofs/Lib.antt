@@ -11,6 +11,7 @@ pub mod Outputs
 pub mod Once
 pub mod NameTables
 pub mod NamePairs
+pub mod PairRefusals
 pub mod NameFiles
 pub mod Number
 pub mod Article

@@ -1,21 +1,21 @@
--- The pairs of a child-name file: which are accepted, and which pair a refusal names.
-use mathlib.Core.Path.{_≡_, refl, sym, ap, _∙_}
-use mathlib.Core.Logic.{_↔_, _⊎_, inl, inr, ⊎-elim}
+-- The pairs of a child-name file, and which of them are accepted.
+use mathlib.Core.Path.{_≡_, refl, sym, ap}
+use mathlib.Core.Logic.{_↔_, Iff·trans, ⊎-elim}
 use mathlib.Core.Bool.{Bool, true, false, cond, _&&_, not}
 use mathlib.Core.List.{List, [], _∷_, map, Memᴰ·cast, Memᴰ·map}
-use mathlib.Core.Option.{Option, none, some, Option·none-ne-some, Option·some-injective}
-use Prim.Native.Nat.{ℕ, suc, _+_, _%_, _≤_, _<_}
+use mathlib.Core.Option.{none}
+use Prim.Native.Nat.{ℕ, suc, _%_, _≤_}
 use native.Mathlib.Omega.{arith}
-use lib.ListN.{length, take}
+use lib.ListN.{length}
 use lib.Dec.{T, leb, eqb, eqb-refl, T-not, not-T, leb→le, le→leb}
 use Rattle.labelling.specs.Basics.{_∈_, keep, stands}
 use Rattle.labelling.specs.Limits.{maxName, maxFile}
-use Rattle.labelling.specs.Refusals.{Refusal, check, first, fileLength, nameTooHigh, pairAgain}
+use Rattle.labelling.specs.Refusals.{fileLength, nameTooHigh, pairAgain}
 use Rattle.labelling.specs.Names.{isName, twice, Pair, pairs, children, pairCheck, pairsCheck, fileCheck}
-use Rattle.labelling.proofs.Tests.{and-iff, is-true, eqb-alike, Tells, passes, fails, eq?}
+use Rattle.labelling.proofs.Tests.{and-facts, is-true, eqb-alike, Tells, passes, fails, eq?}
 use Rattle.labelling.proofs.Lists.{here, there, here-or-there, nowhere, for-cons, for-map, keep-iff}
-use Rattle.labelling.proofs.Refusals.{check-none, first-both, first-here, check-passed, first-next}
-use Rattle.labelling.proofs.Once.{once-cons, stands-iff}
+use Rattle.labelling.proofs.Refusals.{check-iff, first-iff, last-iff, first-both}
+use Rattle.labelling.proofs.Once.{once-cons, stands-iff, Differ, differ-cons}
 
 -- a number is a child of a name exactly if the pair of the two stands in the file
 pub children-iff : (qs : List Pair) (p c : ℕ) → c ∈ children qs p ↔ record { parent = p; child = c } ∈ qs
@@ -82,27 +82,44 @@ good-cons q qs = (
     more n p h true (passes e) = once-cons (q .child) (children qs p) .1 (λ m. n (children-iff qs (q .parent) (q .child) .0 (rw (← e) at m)), h)
     more n p h false (fails k) = h
 
+-- what is read past the last pair
+abbrev pub noPair : Pair
+noPair = record { parent = 0; child = 0 }
+
+-- pairs are good exactly if they hold names and no pair stands twice
+pub goodPairs-iff : (qs : List Pair) → GoodPairs qs ↔ (((q : Pair) → q ∈ qs → (q .parent ≤ maxName) × (q .child ≤ maxName)) × Differ noPair qs)
+goodPairs-iff [] = (λ g. (g .names, λ i j p q. absurd (omega arith)), λ h. no-pairs)
+goodPairs-iff (q ∷ qs) = (
+  λ g. let (a, b, new, rest) = good-cons q qs .0 g in (g .names, differ-cons noPair q qs .1 (new, goodPairs-iff qs .0 rest .1)),
+  λ h.
+      let (a, b) = h .0 q (here refl) in
+      let (new, rest) = differ-cons noPair q qs .0 (h .1) in
+      good-cons q qs .1 (a, b, new, goodPairs-iff qs .1 (λ r m. h .0 r (there m), rest)),
+)
+
+-- the test of a pair's names passes exactly if both are 0 to 63
+pub pair-named : (q : Pair) → T (isName (q .parent) && isName (q .child)) ↔ ((q .parent ≤ maxName) × (q .child ≤ maxName))
+unfolding isName
+pair-named q = and-facts (isName (q .parent)) (isName (q .child))
+    (leb→le (q .parent) maxName, le→leb (q .parent) maxName) (leb→le (q .child) maxName, le→leb (q .child) maxName)
+
+-- the test of a pair that stood before passes exactly if it is one of the earlier
+pub pair-stood : (earlier : List Pair) (q : Pair) → T (stands (q .child) (children earlier (q .parent))) ↔ q ∈ earlier
+pair-stood earlier q = Iff·trans (stands-iff (q .child) (children earlier (q .parent))) (children-iff earlier (q .parent) (q .child))
+
+-- the test of a pair that did not stand before passes exactly if it is none of the earlier
+pub pair-new : (earlier : List Pair) (q : Pair) → T (not (stands (q .child) (children earlier (q .parent)))) ↔ (q ∈ earlier → ⊥)
+pair-new earlier q =
+    let stood : Bool = stands (q .child) (children earlier (q .parent)) in
+    (λ t m. T-not stood t (pair-stood earlier q .1 m), λ n. not-T stood (λ t. n (pair-stood earlier q .0 t)))
+
 -- a pair is accepted exactly if it holds names and did not stand before
 pairCheck-iff : (i : ℕ) (earlier : List Pair) (q : Pair) → pairCheck i earlier q ≡ none ↔
     ((q .parent ≤ maxName) × (q .child ≤ maxName) × (q ∈ earlier → ⊥))
-unfolding pairCheck isName
-pairCheck-iff i earlier q =
-    let stood : Bool = stands (q .child) (children earlier (q .parent)) in
-    let named : Bool = isName (q .parent) && isName (q .child) in
-    let same = children-iff earlier (q .parent) (q .child) in (
-      λ h.
-          let (a, b) = first-both (check named nameTooHigh i) (check (not stood) pairAgain i) .0 h in
-          let (c, d) = and-iff (isName (q .parent)) (isName (q .child)) .0 (check-none named nameTooHigh i a) in (
-            leb→le (q .parent) maxName c,
-            leb→le (q .child) maxName d,
-            λ m. T-not stood (check-none (not stood) pairAgain i b) (stands-iff _ _ .1 (same .1 m)),
-          ),
-      λ h. first-both (check named nameTooHigh i) (check (not stood) pairAgain i) .1 (
-        check-passed named nameTooHigh i
-            (and-iff (isName (q .parent)) (isName (q .child)) .1 (le→leb (q .parent) maxName (h .0), le→leb (q .child) maxName (h .1))),
-        check-passed (not stood) pairAgain i (not-T stood (λ t. h .2 (same .0 (stands-iff _ _ .0 t)))),
-      ),
-    )
+unfolding pairCheck
+pairCheck-iff i earlier q = Iff·trans
+    (first-iff _ _ (check-iff _ nameTooHigh i (pair-named q)) (last-iff _ (check-iff _ pairAgain i (pair-new earlier q))))
+    (λ h. (h .0 .0, h .0 .1, h .1), λ h. ((h .0, h .1), h .2))
 
 -- pairs are accepted after earlier ones exactly if they are good and none of them stood before
 pub pairsCheck-iff : (i : ℕ) (earlier qs : List Pair) → pairsCheck i earlier qs ≡ none ↔ (GoodPairs qs × ((q : Pair) → q ∈ qs → q ∈ earlier → ⊥))
@@ -129,93 +146,23 @@ pub record GoodFile (bytes : List ℕ) : Type 0 where
   pub even : length bytes % 2 ≡ 0
   pub small : length bytes ≤ maxFile
   pub names : (q : Pair) → q ∈ pairs bytes → (q .parent ≤ maxName) × (q .child ≤ maxName)
-  -- no pair stands twice: below each name its children differ
-  pub once : (p : ℕ) → T (not (twice (children (pairs bytes) p)))
+  pub once : Differ noPair (pairs bytes)
 
 -- the pairs of a good file are good
 pub pairs-good : (bytes : List ℕ) → GoodFile bytes → GoodPairs (pairs bytes)
-pairs-good bytes g = record { names = g .names; once = g .once }
+pairs-good bytes g = goodPairs-iff (pairs bytes) .1 (g .names, g .once)
+
+-- the test of a file's length passes exactly if it is even and at most 8,192
+pub length-iff : (bytes : List ℕ) → T (eqb (length bytes % 2) 0 && leb (length bytes) maxFile) ↔ ((length bytes % 2 ≡ 0) × (length bytes ≤ maxFile))
+length-iff bytes = and-facts (eqb (length bytes % 2) 0) (leb (length bytes) maxFile) (eqb-alike (length bytes % 2) 0)
+    (leb→le (length bytes) maxFile, le→leb (length bytes) maxFile)
 
 -- a file is accepted exactly if the facts hold
 pub fileCheck-iff : (bytes : List ℕ) → fileCheck bytes ≡ none ↔ GoodFile bytes
 unfolding fileCheck
-fileCheck-iff bytes =
-    let even : Bool = eqb (length bytes % 2) 0 in
-    let small : Bool = leb (length bytes) maxFile in
-    let both = first-both (check (even && small) fileLength 0) (pairsCheck 0 [] (pairs bytes)) in (
-      λ h.
-          let (size, rest) = both .0 h in
-          let (a, b) = and-iff even small .0 (check-none (even && small) fileLength 0 size) in
-          let good = pairsCheck-iff 0 [] (pairs bytes) .0 rest .0 in
-          record { even = eqb-alike _ 0 .0 a; small = leb→le (length bytes) maxFile b; names = good .names; once = good .once },
-      λ g. both .1 (
-        check-passed (even && small) fileLength 0
-            (and-iff even small .1 (eqb-alike (length bytes % 2) 0 .1 (g .even), le→leb (length bytes) maxFile (g .small))),
-        pairsCheck-iff 0 [] (pairs bytes) .1 (pairs-good bytes g, λ q m. nowhere),
-      ),
-    )
-
--- a pair is refused at its own place, by 2 or 3
-pairCheck-refusal : (i : ℕ) (earlier : List Pair) (q : Pair) (r : Refusal) → pairCheck i earlier q ≡ some r →
-    (r .place ≡ i) × ((r .number ≡ nameTooHigh) ⊎ (r .number ≡ pairAgain))
-unfolding pairCheck first check
-pairCheck-refusal i earlier q r = go (isName (q .parent) && isName (q .child)) (not (stands (q .child) (children earlier (q .parent))))
-  where
-    go : (a b : Bool) → first (check a nameTooHigh i ∷ check b pairAgain i ∷ []) ≡ some r →
-        (r .place ≡ i) × ((r .number ≡ nameTooHigh) ⊎ (r .number ≡ pairAgain))
-    go true true e = absurd (Option·none-ne-some r e)
-    go true false e = let d = Option·some-injective _ r e in (ap (λ s. s .place) (sym d), inr (ap (λ s. s .number) (sym d)))
-    go false b e = let d = Option·some-injective _ r e in (ap (λ s. s .place) (sym d), inl (ap (λ s. s .number) (sym d)))
-
--- the pair at which pairs are refused: those before it are accepted, and up to it they are refused alike
-record Fault (i : ℕ) (earlier qs : List Pair) (r : Refusal) : Type 0 where
-  pair : ℕ
-  inside : pair < length qs
-  placed : r .place ≡ i + pair
-  numbered : (r .number ≡ nameTooHigh) ⊎ (r .number ≡ pairAgain)
-  accepted : pairsCheck i earlier (take pair qs) ≡ none
-  refused : pairsCheck i earlier (take (suc pair) qs) ≡ some r
-
--- pairs that are refused have such a pair
-fault-of : (i : ℕ) (earlier qs : List Pair) (r : Refusal) → pairsCheck i earlier qs ≡ some r → Fault i earlier qs r
-unfolding pairsCheck
-fault-of i earlier [] r e = absurd (Option·none-ne-some r e)
-fault-of i earlier (q ∷ qs) r e = go (pairCheck i earlier q) refl (fault-of (suc i) (q ∷ earlier) qs r)
-  where
-    now : pairCheck i earlier q ≡ some r → Fault i earlier (q ∷ qs) r
-    now d =
-        let (place, number) = pairCheck-refusal i earlier q r d in
-        record { pair = 0; inside = omega arith; placed = omega arith; numbered = number; accepted = refl; refused = first-here r _ _ d }
-
-    later : pairCheck i earlier q ≡ none → Fault (suc i) (q ∷ earlier) qs r → Fault i earlier (q ∷ qs) r
-    later d f = record {
-      pair = suc (f .pair);
-      inside = omega (arith, f .inside);
-      placed = omega (arith, f .placed);
-      numbered = f .numbered;
-      accepted = first-next _ _ d ∙ f .accepted;
-      refused = first-next _ _ d ∙ f .refused;
-    }
-
-    go : (o : Option Refusal) → pairCheck i earlier q ≡ o →
-        (pairsCheck (suc i) (q ∷ earlier) qs ≡ some r → Fault (suc i) (q ∷ earlier) qs r) → Fault i earlier (q ∷ qs) r
-    go none d below = later d (below (sym (first-next _ _ d) ∙ e))
-    go (some s) d below = now (d ∙ sym (first-here s _ _ d) ∙ e)
-
--- a refusal names the first pair that is at fault
-pub pairsCheck-first : (i : ℕ) (earlier qs : List Pair) (r : Refusal) → pairsCheck i earlier qs ≡ some r →
-    (j : ℕ) × (j < length qs) × (r .place ≡ i + j) × (pairsCheck i earlier (take j qs) ≡ none)
-pairsCheck-first i earlier qs r e = let f = fault-of i earlier qs r e in (f .pair, f .inside, f .placed, f .accepted)
-
--- that pair is at fault: up to it the pairs are refused alike
-pub pairsCheck-fault : (i : ℕ) (earlier qs : List Pair) (r : Refusal) → pairsCheck i earlier qs ≡ some r →
-    (j : ℕ) → r .place ≡ i + j → pairsCheck i earlier (take (suc j) qs) ≡ some r
-pairsCheck-fault i earlier qs r e j d =
-    let f = fault-of i earlier qs r e in
-    let same : f .pair ≡ j = omega (arith, f .placed) in
-    rw (← same) (f .refused)
-
--- pairs are refused by 2 or 3
-pub pairsCheck-number : (i : ℕ) (earlier qs : List Pair) (r : Refusal) → pairsCheck i earlier qs ≡ some r →
-    (r .number ≡ nameTooHigh) ⊎ (r .number ≡ pairAgain)
-pairsCheck-number i earlier qs r e = fault-of i earlier qs r e .numbered
+fileCheck-iff bytes = Iff·trans (first-iff _ _ (check-iff _ fileLength 0 (length-iff bytes)) (last-iff _ (pairsCheck-iff 0 [] (pairs bytes)))) (
+  λ h.
+      let (names, once) = goodPairs-iff (pairs bytes) .0 (h .1 .0) in
+      record { even = h .0 .0; small = h .0 .1; names = names; once = once },
+  λ g. ((g .even, g .small), (pairs-good bytes g, λ q m. nowhere)),
+)

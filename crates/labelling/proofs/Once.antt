@@ -1,6 +1,6 @@
 -- Lists of numbers in which none stands twice.
 use mathlib.Core.Path.{_≡_, refl, sym, _∙_}
-use mathlib.Core.Logic.{_↔_, inl, inr, ⊎-elim, ⊎-map}
+use mathlib.Core.Logic.{_↔_, Iff·rfl, Iff·symm, Iff·trans, Iff·and, inl, inr, ⊎-elim, ⊎-map}
 use mathlib.Core.Bool.{Bool, true, false, cond, _||_, not}
 use mathlib.Core.List.{List, [], _∷_, Memᴰ·cast}
 use Prim.Native.Nat.{ℕ, zero, suc, _≤_, _<_}
@@ -32,24 +32,31 @@ once-cons x xs = (
   λ p. not-T (stands x xs || twice xs) (λ t. ⊎-elim (λ k. p .0 (stands-iff x xs .0 k)) (T-not (twice xs) (p .1)) (or-iff (stands x xs) _ .0 t)),
 )
 
--- no number stands twice exactly if those at two places differ
-pub twice-iff : (l : List ℕ) → T (not (twice l)) ↔ ((i j : ℕ) → i < j → j < length l → getD l i 0 ≡ getD l j 0 → ⊥)
-unfolding twice
-twice-iff [] = (λ h i j p q. absurd (not-suc-le-zero q), λ h. tt)
-twice-iff (x ∷ xs) = (
-  λ h. let (new, apart) = once-cons x xs .0 h in go new (twice-iff xs .0 apart),
-  λ h. once-cons x xs .1 (
-    λ m. let (i, p, e) = member-at 0 xs x .0 m in h 0 (suc i) (omega arith) (omega arith) (sym e),
-    twice-iff xs .1 (λ i j p q. h (suc i) (suc j) (omega arith) (omega arith)),
+-- the members at two places of a list differ
+abbrev pub Differ : {A : Type 0} → A → List A → Type 0
+Differ d l = (i j : ℕ) → i < j → j < length l → getD l i d ≡ getD l j d → ⊥
+
+-- the members of a list differ exactly if the first does not stand again and those of the rest differ
+pub differ-cons : {A : Type 0} (d x : A) (xs : List A) → Differ d (x ∷ xs) ↔ ((x ∈ xs → ⊥) × Differ d xs)
+differ-cons d x xs = (
+  λ h. (
+    λ m. let (i, p, e) = member-at d xs x .0 m in h 0 (suc i) (omega arith) (omega arith) (sym e),
+    λ i j p q. h (suc i) (suc j) (omega arith) (omega arith),
   ),
+  λ h. go (h .0) (h .1),
 )
   where
-    go : (x ∈ xs → ⊥) → ((i j : ℕ) → i < j → j < length xs → getD xs i 0 ≡ getD xs j 0 → ⊥) →
-        (i j : ℕ) → i < j → j < suc (length xs) → getD (x ∷ xs) i 0 ≡ getD (x ∷ xs) j 0 → ⊥
+    go : (x ∈ xs → ⊥) → Differ d xs → Differ d (x ∷ xs)
     go new apart zero zero p q e = omega arith
     go new apart (suc i) zero p q e = omega arith
-    go new apart zero (suc j) p q e = new (member-at 0 xs x .1 (j, le-of-suc-le-suc q, sym e))
+    go new apart zero (suc j) p q e = new (member-at d xs x .1 (j, le-of-suc-le-suc q, sym e))
     go new apart (suc i) (suc j) p q e = apart i j (le-of-suc-le-suc p) (le-of-suc-le-suc q) e
+
+-- no number stands twice exactly if those at two places differ
+pub twice-iff : (l : List ℕ) → T (not (twice l)) ↔ Differ 0 l
+unfolding twice
+twice-iff [] = (λ h i j p q. absurd (not-suc-le-zero q), λ h. tt)
+twice-iff (x ∷ xs) = Iff·trans (once-cons x xs) (Iff·trans (Iff·and Iff·rfl (twice-iff xs)) (Iff·symm (differ-cons 0 x xs)))
 
 -- where no number stands twice, none does in what a test keeps
 pub keep-once : (f : ℕ → Bool) (l : List ℕ) → T (not (twice l)) → T (not (twice (keep f l)))

@@ -1,14 +1,17 @@
 -- What is written over an output, and what a call that fills one answers.
 use mathlib.Core.Path.{_≡_, refl, ap}
+use mathlib.Core.Logic.{_↔_}
 use mathlib.Core.List.{List}
 use mathlib.Core.Option.{Option, none, some, Option·none-ne-some, Option·some-ne-none}
 use Prim.Native.Nat.{ℕ, _≤_}
 use native.Mathlib.Omega.{arith}
 use lib.ListN.{length, take, drop, length-append, length-drop}
 use lib.Seq.{take-at, drop-at}
+use lib.Dec.{leb, leb→le, le→leb}
 use Rattle.labelling.specs.Basics.{over}
-use Rattle.labelling.specs.Refusals.{Refusal}
-use Rattle.labelling.specs.Outputs.{Listing, listed}
+use Rattle.labelling.specs.Refusals.{Refusal, shortOutput}
+use Rattle.labelling.specs.Outputs.{Listing, listed, roomCheck}
+use Rattle.labelling.proofs.Refusals.{check-iff}
 
 -- what is written is written from the start
 pub take-over : (ws out : List ℕ) → take (length ws) (over ws out) ≡ ws
@@ -24,6 +27,11 @@ drop-over ws out = drop-at ws (drop (length ws) out) (length ws) refl
 pub length-over : (ws out : List ℕ) → length ws ≤ length out → length (over ws out) ≡ length out
 unfolding over
 length-over ws out h = simp (length-append, length-drop) (omega arith)
+
+-- an output is long enough exactly if the result is no longer
+pub room-iff : (ws out : List ℕ) → roomCheck ws out ≡ none ↔ (length ws ≤ length out)
+unfolding roomCheck
+room-iff ws out = check-iff (leb (length ws) (length out)) shortOutput 0 (leb→le (length ws) (length out), le→leb (length ws) (length out))
 
 -- what is listed carries its refusal
 pub listed-refusal : (o : Option Refusal) (count : ℕ) (ws out : List ℕ) → listed o count ws out .refusal ≡ o

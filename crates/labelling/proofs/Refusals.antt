@@ -2,12 +2,13 @@
 use mathlib.Core.Path.{_≡_, refl, sym, ap, _∙_}
 use mathlib.Core.Logic.{_↔_, _⊎_, inl, inr, ⊎-elim}
 use mathlib.Core.Bool.{Bool, true, false}
-use mathlib.Core.List.{List, [], _∷_}
+use mathlib.Core.List.{List, [], _∷_, _++_}
 use mathlib.Core.Option.{Option, none, some, Option·none-ne-some, Option·some-ne-none, Option·some-injective}
 use Prim.Native.Nat.{ℕ}
 use lib.Dec.{T}
-use Rattle.labelling.specs.Basics.{elim?}
+use Rattle.labelling.specs.Basics.{_∈_, elim?}
 use Rattle.labelling.specs.Refusals.{Refusal, refuse, check, first}
+use Rattle.labelling.proofs.Lists.{here, there, nowhere, for-cons}
 
 -- the checks of table and records that pass can be left out
 pub first-skip : (o : Option Refusal) (cs : List (Option Refusal)) → first (none ∷ o ∷ none ∷ cs) ≡ first (o ∷ cs)
@@ -39,9 +40,20 @@ unfolding check
 check-failed true n place h = absurd (h tt)
 check-failed false n place h = refl
 
+-- equal refusals have equal numbers
+pub refuse-number : {m n i j : ℕ} → refuse m i ≡ refuse n j → m ≡ n
+refuse-number e = ap (λ (r : Refusal). r .number) (Option·some-injective _ _ e)
+
 -- a check passes exactly if the fact holds that its test tells
 pub check-iff : {P : Type 0} (b : Bool) (n place : ℕ) → T b ↔ P → check b n place ≡ none ↔ P
 check-iff b n place e = (λ h. e .0 (check-none b n place h), λ p. check-passed b n place (e .1 p))
+
+-- a check refuses exactly if that fact does not hold
+pub check-refuses : {P : Type 0} (b : Bool) (n place : ℕ) → T b ↔ P → check b n place ≡ refuse n place ↔ (P → ⊥)
+check-refuses b n place e = (
+  λ h p. Option·none-ne-some _ (sym (check-passed b n place (e .1 p)) ∙ h),
+  λ h. check-failed b n place (λ t. h (e .0 t)),
+)
 
 -- a check that does not refuse can be left out
 pub first-rest : (o : Option Refusal) (cs : List (Option Refusal)) → o ≡ none → first (o ∷ cs) ≡ first cs
@@ -79,6 +91,22 @@ unfolding first
 first-some none cs r e = inr (refl, e)
 first-some (some s) cs r e = inl e
 
+-- a list of checks refuses exactly as its first check that refuses: those before it pass
+pub first-refuses : (cs : List (Option Refusal)) (r : Refusal) →
+    first cs ≡ some r ↔ ((passed rest : List (Option Refusal)) × (cs ≡ passed ++ (some r ∷ rest)) × ((o : Option Refusal) → o ∈ passed → o ≡ none))
+unfolding first
+first-refuses cs r = (told cs, λ h. ap first (h .2) ∙ says (h .0) (h .1) (h .3))
+  where
+    told : (cs : List (Option Refusal)) → first cs ≡ some r →
+        (passed rest : List (Option Refusal)) × (cs ≡ passed ++ (some r ∷ rest)) × ((o : Option Refusal) → o ∈ passed → o ≡ none)
+    told [] e = absurd (Option·none-ne-some r e)
+    told (none ∷ cs) e = let (passed, rest, split, all) = told cs e in (none ∷ passed, rest, ap (_∷_ none) split, for-cons (λ o. o ≡ none) refl all)
+    told (some s ∷ cs) e = ([], cs, ap (λ o. o ∷ cs) e, λ o m. absurd (nowhere m))
+
+    says : (passed rest : List (Option Refusal)) → ((o : Option Refusal) → o ∈ passed → o ≡ none) → first (passed ++ (some r ∷ rest)) ≡ some r
+    says [] rest all = refl
+    says (o ∷ passed) rest all = first-rest o (passed ++ (some r ∷ rest)) (all o (here refl)) ∙ says passed rest (λ o m. all o (there m))
+
 -- a check refuses at its own place
 pub check-place : (b : Bool) (n place : ℕ) (r : Refusal) → check b n place ≡ some r → r .place ≡ place
 unfolding check
@@ -113,6 +141,13 @@ pub taken : {A : Type 0} (o : Option Refusal) (a : A) (f : Refusal → A) → o 
 unfolding elim?
 taken none a f e = refl
 taken (some r) a f e = absurd (Option·some-ne-none r e)
+
+-- an answer that carries a refusal is the refused one
+pub refused-is : {A : Type 0} (refusal : A → Option Refusal) (o : Option Refusal) (a : A) (f : Refusal → A) → refusal a ≡ none →
+    ((r : Refusal) → refusal (f r) ≡ some r) → (r : Refusal) → refusal (elim? o a f) ≡ some r → elim? o a f ≡ f r
+unfolding elim?
+refused-is refusal none a f h k r e = absurd (Option·none-ne-some r (sym h ∙ e))
+refused-is refusal (some q) a f h k r e = ap f (Option·some-injective q r (sym (k q) ∙ e))
 
 -- a check that never refuses by the number n, and lists of such checks
 abbrev pub Never : ℕ → Option Refusal → Type 0

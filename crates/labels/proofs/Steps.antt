@@ -1,7 +1,7 @@
 -- What each way out of the code on labels tells of the definitions: words read from an index on, then the calls.
 use Prim.Native.Nat.{ℕ, _+_, _-_, _<_, _≤_}
 use mathlib.Core.Path.{_≡_, refl, sym, ap, ap₂, subst, _∙_}
-use mathlib.Core.Logic.{Iff·symm}
+use mathlib.Core.Logic.{Iff·symm, Iff·trans}
 use mathlib.Core.List.{List, [], _∷_}
 use mathlib.Core.Bool.{Bool, true, false, not, _&&_}
 use native.Mathlib.Omega.{arith}
@@ -16,6 +16,7 @@ use Rattle.labelling.specs.Refusals.{check, refuse, notLabel}
 use Rattle.labelling.specs.Labels.{Label, before, shared, within, kinship, follows, isComponent, labelOf, isLabel, labelCheck, kinshipCall, followsCall}
 use Rattle.labelling.proofs.Tests.{and-iff, is-true, test-equal}
 use Rattle.labelling.proofs.LabelWords.{IsLabel, isLabel-iff, labelOf-good}
+use Rattle.labelling.proofs.LabelOrder.{precedes-iff}
 use Rattle.labelling.proofs.Kinship.{shared-comm, follows-iff}
 use Rattle.labelling.proofs.LabelCalls.{kinship-call, kinship-refused, follows-call, follows-refused}
 use Rattle.labelling.proofs.Scans.{from-cons, tail-is}
@@ -226,7 +227,7 @@ module _ (a b : List ℕ) {x : Bool} (is : x ≡ isLabel a) where
 
 -- follows is label order from the second label to the first
 follows-is : (l m : Label) → before m l ≡ follows l m
-follows-is l m = test-equal (before m l) (follows l m) (Iff·symm (follows-iff l m))
+follows-is l m = test-equal (before m l) (follows l m) (Iff·trans (precedes-iff m l) (Iff·symm (follows-iff l m)))
 
 -- two lists of words: x is what `both_labels` answered
 module _ (a b : List ℕ) {x : Bool} (is : x ≡ (isLabel a && isLabel b)) where

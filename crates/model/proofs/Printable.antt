@@ -1,7 +1,7 @@
 -- The program's checks by the facts of its three files: what it prints where all hold, and by which refusal it refuses where one fails.
-use mathlib.Core.Path.{_≡_, refl, sym, ap, _∙_}
+use mathlib.Core.Path.{_≡_, refl, sym, ap, subst, _∙_}
 use mathlib.Core.Logic.{_↔_, ⊎-elim, by-cases}
-use mathlib.Core.Bool.{Bool, true, false, cond, _&&_}
+use mathlib.Core.Bool.{Bool, true, false}
 use mathlib.Core.List.{List, [], _∷_, map}
 use mathlib.Core.Option.{Option, none, some, Option·none-ne-some, Option·some-ne-none}
 use Prim.Native.Nat.{ℕ, _*_, _<_, _≤_}
@@ -9,12 +9,11 @@ use native.Mathlib.Decide.{decLt}
 use native.Mathlib.Nat.{mul-assoc}
 use native.Mathlib.Omega.{arith}
 use lib.ListN.{length, getD, length-append}
-use lib.Dec.{ltb}
 use Rattle.labelling.specs.Basics.{_∈_, elim?, joined, total}
 use Rattle.labelling.specs.Limits.{labelSize, maxDepth, maxBytes}
 use Rattle.labelling.specs.Refusals.{Refusal, refuse, check, first, shortOutput, storeSize}
 use Rattle.labelling.specs.Labels.{Label}
-use Rattle.patterns.specs.Twigs.{Twig, readTwig, twigCheck, wanted, leafNames, nodeAt, isLeaf}
+use Rattle.patterns.specs.Twigs.{Twig, readTwig, twigCheck, wanted, leafNames}
 use Rattle.patterns.specs.Matches.{matches, labelsWords, matchWords}
 use Rattle.storage.specs.Store.{rootOf}
 use Rattle.storage.specs.Cutting.{stream, streams, fullList}
@@ -28,7 +27,7 @@ use Rattle.patterns.proofs.Matches.{matches-iff}
 use Rattle.patterns.proofs.MatchWords.{length-labelsWords, length-matchWords}
 use Rattle.storage.proofs.SoundStore.{SoundElements}
 use Rattle.storage.proofs.StreamWords.{for-stream, counted}
-use Rattle.model.proofs.Streams.{streams-at}
+use Rattle.model.proofs.Streams.{streams-asked}
 use Rattle.model.proofs.Demand2.{match-short, store-elements}
 use Rattle.model.proofs.FileStores.{storeFile-iff, storeFile-sized, buffer-iff}
 
@@ -88,11 +87,7 @@ module _ (names store twig : List ℕ) (sized : StoreLength (length store)) (sou
 
   -- the labels of a twig's streams are good
   streams-labelled : (t : Twig) (i : ℕ) (l : Label) → l ∈ getD (streams t (fileElements store)) i [] → GoodLabel l
-  streams-labelled t i l m = go (ltb i (length t) && isLeaf t i) (rw streams-at at m)
-    where
-      go : (c : Bool) → l ∈ cond c (stream (nodeAt t i .name) (fileElements store)) [] → GoodLabel l
-      go true k = stream-labels (nodeAt t i .name) l k
-      go false k = absurd (nowhere k)
+  streams-labelled t i l m = let (e, s, a, f) = streams-asked t (fileElements store) i l .0 m .1 in subst GoodLabel f (elements-sound .labelled e s)
 
   -- the bytes of all streams
   stream-bytes : 2 * length (labelsWords (joined (streams (readTwig twig) (fileElements store)))) ≡ streamBytes store twig

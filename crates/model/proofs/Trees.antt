@@ -12,8 +12,8 @@ use Rattle.storage.specs.Store.{Element, find, elementAt}
 use Rattle.model.specs.Trees.{namesTo}
 use Rattle.labelling.proofs.LabelOrder.{within-iff, within-self}
 use Rattle.labelling.proofs.Decode.{name-child, name-cons}
-use Rattle.storage.proofs.SoundStore.{SoundElements, find-mem, name-root}
-use Rattle.storage.proofs.Parents.{find-none}
+use Rattle.storage.proofs.SoundStore.{SoundElements, name-root}
+use Rattle.storage.proofs.Finding.{find-none, find-mem}
 
 -- a label stays within another where both get the same component in front
 one-deeper : (x : ℕ) (up low : Label) → T (within up low) → T (within (x ∷ up) (x ∷ low))

@@ -20,8 +20,7 @@ use Rattle.labelling.proofs.Tests.{Tells, passes, fails, eq?, and-iff, eqb-alik
 use Rattle.labelling.proofs.Lists.{nowhere, for-cons}
 use Rattle.labelling.proofs.LabelOrder.{before-order, same?}
 use Rattle.labelling.proofs.Kinship.{shared-alike, shared-low}
-use Rattle.storage.proofs.Relaid.{test-none, test-passes}
-use Rattle.storage.proofs.SoundStore.{test-rest}
+use Rattle.storage.proofs.Relaid.{test-none, test-rest, test-passes}
 use Rattle.records.specs.Records.{recordAt}
 use Rattle.records.proofs.Parts.{record-depth, record-label, record-long}
 use Rattle.soundness.specs.Rules.{Laid, brokenRoot, brokenBelow, brokenAt}

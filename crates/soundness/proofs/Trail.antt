@@ -15,7 +15,7 @@ use Rattle.storage.specs.Store.{Element, readElement, find}
 use Rattle.labelling.proofs.Tests.{decide}
 use Rattle.labelling.proofs.LabelOrder.{before-one-way, before-nonroot, above-last, extend-before, within-iff, within-self}
 use Rattle.labelling.proofs.Kinship.{shared-alike, shared-most}
-use Rattle.storage.proofs.SoundStore.{find-mem}
+use Rattle.storage.proofs.Finding.{find-mem}
 use Rattle.labels.proofs.Order.{order-none}
 use Rattle.records.specs.Records.{recordAt}
 

@@ -1,15 +1,28 @@
 -- The first record that breaks a rule, and the refusal that names it.
 use mathlib.Core.Path.{_≡_, refl, sym, ap, _∙_}
-use mathlib.Core.Logic.{_↔_}
+use mathlib.Core.Logic.{_↔_, Iff·trans}
 use mathlib.Core.List.{List, [], _∷_, map, reverseAux}
 use mathlib.Core.Option.{Option, none, some, Option·none-ne-some, Option·some-ne-none, Option·some-injective}
-use Prim.Native.Nat.{ℕ, suc, _+_, _<_}
+use Prim.Native.Nat.{ℕ, zero, suc, _+_, _<_}
+use native.Mathlib.Nat.{le-of-suc-le-suc}
 use native.Mathlib.Omega.{arith}
 use lib.ListN.{length, getD, take}
 use Rattle.labelling.specs.Basics.{elim?}
 use Rattle.labelling.specs.Refusals.{Refusal, refuse, unsound}
 use Rattle.labelling.specs.Names.{Clues}
 use Rattle.storage.specs.Store.{Element, Rule, readElement, records, broken, Fault, fault, numberOf, soundCheck, layoutRule, orderRule, parentRule, nameRule, lastRule, nextRule}
+use Rattle.storage.proofs.Sizes.{length-records}
+use Rattle.storage.proofs.Rules.{Keeps, Breaks, broken-none, broken-some}
+
+-- what a rule says of record i of some records, after other elements: those before it are the previous one first
+abbrev pub KeepsAt : Clues → List Element → List (List ℕ) → ℕ → Rule → Type 0
+KeepsAt cl done rs i = Keeps cl (reverseAux (map readElement (take i rs)) done) (getD rs i [])
+
+-- record i is the first that breaks a rule, and r is the first rule that it breaks
+pub record FirstFault (cl : Clues) (done : List Element) (rs : List (List ℕ)) (i : ℕ) (r : Rule) : Type 0 where
+  pub inside : i < length rs
+  pub earlier : (j : ℕ) → j < i → (q : Rule) → KeepsAt cl done rs j q
+  pub breaks : Breaks (KeepsAt cl done rs i) r
 
 -- where no record breaks a rule, the first does not, nor do the others after it
 pub fault-cons : (cl : Clues) (done : List Element) (r : List ℕ) (rs : List (List ℕ)) → fault cl done (r ∷ rs) ≡ none →
@@ -23,29 +36,75 @@ fault-cons cl done r rs e = go (broken cl done r) refl e
     go none b e = (b, e)
     go (some x) b e = absurd (Option·some-ne-none _ e)
 
--- a fault in records after others: the record it names is the first that breaks a rule, and the rule is the first that it breaks
-pub record FirstFault (cl : Clues) (done : List Element) (rs : List (List ℕ)) (f : Fault) : Type 0 where
-  pub number : ℕ
-  pub inside : number < length rs
-  pub place : f .place ≡ length done + number
-  pub before : fault cl done (take number rs) ≡ none
-  pub breaks : broken cl (reverseAux (map readElement (take number rs)) done) (getD rs number []) ≡ some (f .rule)
+-- what holds of the first record and of every later one holds of every record
+at-every : (P : ℕ → Type 0) {n : ℕ} → P 0 → ((i : ℕ) → i < n → P (suc i)) → (i : ℕ) → i < suc n → P i
+at-every P p q zero h = p
+at-every P p q (suc i) h = q i (le-of-suc-le-suc h)
 
--- every fault is one
-pub first-fault : (cl : Clues) (done : List Element) (rs : List (List ℕ)) (f : Fault) → fault cl done rs ≡ some f → FirstFault cl done rs f
+-- no fault is named exactly if every record keeps every rule
+pub fault-none : (cl : Clues) (done : List Element) (rs : List (List ℕ)) →
+    fault cl done rs ≡ none ↔ ((i : ℕ) → i < length rs → (q : Rule) → KeepsAt cl done rs i q)
 unfolding fault elim?
-first-fault cl done [] f e = absurd (Option·none-ne-some f e)
-first-fault cl done (r ∷ rs) f e = go (broken cl done r) refl e (first-fault cl (readElement r ∷ done) rs f)
+fault-none cl done [] = (λ e i h. absurd (omega arith), λ h. refl)
+fault-none cl done (r ∷ rs) = (
+  λ e.
+      let (b, f) = fault-cons cl done r rs e in
+      at-every (λ i. (q : Rule) → KeepsAt cl done (r ∷ rs) i q) (broken-none cl done r .0 b) (fault-none cl (readElement r ∷ done) rs .0 f),
+  λ h. rw (broken-none cl done r .1 (h 0 (omega arith))) (fault-none cl (readElement r ∷ done) rs .1 (λ i l. h (suc i) (omega arith))),
+)
+
+-- a fault names the first record that breaks a rule
+fault-told : (cl : Clues) (done : List Element) (rs : List (List ℕ)) (f : Fault) → fault cl done rs ≡ some f →
+    (i : ℕ) × (f .place ≡ length done + i) × FirstFault cl done rs i (f .rule)
+unfolding fault elim?
+fault-told cl done [] f e = absurd (Option·none-ne-some f e)
+fault-told cl done (r ∷ rs) f e = go (broken cl done r) refl e (fault-told cl (readElement r ∷ done) rs f)
   where
     go : (o : Option Rule) → broken cl done r ≡ o →
         elim? o (fault cl (readElement r ∷ done) rs) (λ b. some (record { place = length done; rule = b })) ≡ some f →
-        (fault cl (readElement r ∷ done) rs ≡ some f → FirstFault cl (readElement r ∷ done) rs f) → FirstFault cl done (r ∷ rs) f
+        (fault cl (readElement r ∷ done) rs ≡ some f → (i : ℕ) × (f .place ≡ suc (length done) + i) × FirstFault cl (readElement r ∷ done) rs i (f .rule)) →
+        (i : ℕ) × (f .place ≡ length done + i) × FirstFault cl done (r ∷ rs) i (f .rule)
     go none b e ih =
-        let h = ih e in
-        record { number = suc (h .number); inside = omega arith; place = omega arith; before = rw b (h .before); breaks = h .breaks }
+        let (i, place, h) = ih e in (
+          suc i,
+          omega arith,
+          record {
+            inside = omega (arith, h .inside);
+            earlier = at-every (λ i. (q : Rule) → KeepsAt cl done (r ∷ rs) i q) (broken-none cl done r .0 b) (h .earlier);
+            breaks = h .breaks;
+          },
+        )
     go (some x) b e ih =
         let at : record { place = length done; rule = x } ≡ f = Option·some-injective _ f e in
-        record { number = 0; inside = omega arith; place = omega (arith, ap (λ (f : Fault). f .place) at); before = refl; breaks = cc }
+        let rule : broken cl done r ≡ some (f .rule) = cc in (
+          0,
+          omega (arith, ap (λ (f : Fault). f .place) at),
+          record { inside = omega arith; earlier = λ j l. absurd (omega arith); breaks = broken-some cl done r (f .rule) .0 rule },
+        )
+
+-- the first record that breaks a rule is named
+fault-says : (cl : Clues) (done : List Element) (rs : List (List ℕ)) (i : ℕ) (r : Rule) → FirstFault cl done rs i r →
+    fault cl done rs ≡ some (record { place = length done + i; rule = r })
+unfolding fault elim?
+fault-says cl done [] i r h = absurd (omega (arith, h .inside))
+fault-says cl done (x ∷ rs) zero r h =
+    let d : length done + 0 ≡ length done = omega arith in
+    rw (d, broken-some cl done x r .1 (h .breaks))
+fault-says cl done (x ∷ rs) (suc i) r h =
+    let d : length done + suc i ≡ suc (length done) + i = omega arith in
+    let rest : FirstFault cl (readElement x ∷ done) rs i r = record {
+      inside = omega (arith, h .inside);
+      earlier = λ j l. h .earlier (suc j) (omega arith);
+      breaks = h .breaks;
+    } in
+    rw (d, broken-none cl done x .1 (h .earlier 0 (omega arith))) (fault-says cl (readElement x ∷ done) rs i r rest)
+
+-- a fault is named exactly if its record is the first that breaks a rule, and its rule the first that this one breaks
+pub fault-iff : (cl : Clues) (rs : List (List ℕ)) (i : ℕ) (r : Rule) → fault cl [] rs ≡ some (record { place = i; rule = r }) ↔ FirstFault cl [] rs i r
+fault-iff cl rs i r = (
+  λ e. let (j, place, h) = fault-told cl [] rs (record { place = i; rule = r }) e in let d : i ≡ j = omega arith in rw d h,
+  λ h. let d : 0 + i ≡ i = omega arith in fault-says cl [] rs i r h ∙ rw d,
+)
 
 -- the check of the records passes exactly if none breaks a rule
 pub sound-check : (cl : Clues) (count : ℕ) (ws : List ℕ) → soundCheck cl count ws ≡ none ↔ (fault cl [] (records count ws) ≡ none)
@@ -55,6 +114,14 @@ sound-check cl count ws = go (fault cl [] (records count ws))
     go : (o : Option Fault) → elim? o none (λ f. refuse (numberOf (f .rule)) (f .place)) ≡ none ↔ (o ≡ none)
     go none = (λ e. refl, λ e. refl)
     go (some f) = (λ e. absurd (Option·some-ne-none _ e), λ e. absurd (Option·some-ne-none f e))
+
+-- the check passes exactly if every record in use keeps every rule
+pub sound-iff : (cl : Clues) (count : ℕ) (ws : List ℕ) →
+    soundCheck cl count ws ≡ none ↔ ((i : ℕ) → i < count → (q : Rule) → KeepsAt cl [] (records count ws) i q)
+sound-iff cl count ws = Iff·trans (sound-check cl count ws) (Iff·trans (fault-none cl [] (records count ws)) (
+  λ h i l. h i (omega (arith, length-records count ws)),
+  λ h i l. h i (omega (arith, length-records count ws)),
+))
 
 -- the check refuses by a fault: at its place, with its rule's number
 pub sound-refusal : (cl : Clues) (count : ℕ) (ws : List ℕ) (r : Refusal) → soundCheck cl count ws ≡ some r →
@@ -69,6 +136,19 @@ sound-refusal cl count ws r e = go (fault cl [] (records count ws)) e
         let h = sym (Option·some-injective _ r e) in
         (f, refl, ap (λ (r : Refusal). r .number) h, ap (λ (r : Refusal). r .place) h)
 
+-- the check refuses by a number at a place exactly if the record there is the first that breaks a rule, and the first rule that it breaks has the number
+pub sound-refused : (cl : Clues) (count : ℕ) (ws : List ℕ) (n i : ℕ) →
+    soundCheck cl count ws ≡ refuse n i ↔ ((r : Rule) × FirstFault cl [] (records count ws) i r × (numberOf r ≡ n))
+unfolding soundCheck elim?
+sound-refused cl count ws n i = (
+  λ e.
+      let (f, at, number, place) = sound-refusal cl count ws (record { number = n; place = i }) e in
+      let d : fault cl [] (records count ws) ≡ some (record { place = i; rule = f .rule }) =
+      at ∙ ap (λ (p : ℕ). some (record { place = p; rule = f .rule })) (sym place) in
+      (f .rule, fault-iff cl (records count ws) i (f .rule) .0 d, sym number),
+  λ h. rw (fault-iff cl (records count ws) i (h .0) .1 (h .1), h .2),
+)
+
 -- every rule has the number 19
 pub rule-number : (x : Rule) → numberOf x ≡ unsound
 unfolding numberOf
@@ -78,6 +158,14 @@ rule-number parentRule = refl
 rule-number nameRule = refl
 rule-number lastRule = refl
 rule-number nextRule = refl
+
+-- 19 is given at a place exactly if the record there is the first that breaks a rule
+pub nineteen-iff : (cl : Clues) (count : ℕ) (ws : List ℕ) (i : ℕ) →
+    soundCheck cl count ws ≡ refuse unsound i ↔ ((r : Rule) × FirstFault cl [] (records count ws) i r)
+nineteen-iff cl count ws i = (
+  λ e. let (r, h, n) = sound-refused cl count ws unsound i .0 e in (r, h),
+  λ h. sound-refused cl count ws unsound i .1 (h .0, h .1, rule-number (h .0)),
+)
 
 -- so the check refuses by 19 only
 pub unsound-number : (cl : Clues) (count : ℕ) (ws : List ℕ) (r : Refusal) → soundCheck cl count ws ≡ some r → r .number ≡ unsound

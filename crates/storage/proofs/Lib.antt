@@ -1,12 +1,15 @@
 -- The words of a store, and which are sound.
 pub mod Words
 pub mod Relaid
+pub mod Finding
+pub mod Rules
 pub mod Sizes
 pub mod Faults
 pub mod SoundStore
 -- Entries and deletions.
-pub mod Updates
 pub mod Parents
+pub mod Changes
+pub mod Updates
 -- Streams cut from a store.
 pub mod StreamWords
 pub mod Listings

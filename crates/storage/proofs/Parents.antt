@@ -1,37 +1,25 @@
--- What an entry meets at its parent: each of the refusals 9 to 12 by the facts that call for it, and none where all is well.
+-- What an entry meets at its parent, and a deletion at its element: each of the refusals 9 to 12 and 14 by its facts, in both directions.
 use mathlib.Core.Path.{_≡_, refl, _∙_, sym, subst}
-use mathlib.Core.Logic.{_↔_, ⊎-elim}
-use mathlib.Core.Bool.{Bool, true, false, cond}
+use mathlib.Core.Logic.{_↔_, _⊎_, inl, inr, ⊎-elim, by-cases}
 use mathlib.Core.List.{List, [], _∷_}
 use mathlib.Core.Option.{Option, none, some, Option·some-ne-none, Option·none-ne-some}
 use Prim.Native.Nat.{ℕ, _≤_, _<_}
+use native.Mathlib.Decide.{decLt}
 use native.Mathlib.Omega.{arith}
 use lib.ListN.{length}
-use lib.Dec.{leb, ltb, leb→le, le→leb, ltb→lt, lt→ltb}
+use lib.Dec.{T, leb, ltb, leb→le, le→leb, ltb→lt, lt→ltb}
 use Rattle.labelling.specs.Basics.{_∈_, elim?, stands}
 use Rattle.labelling.specs.Limits.{maxComponent, maxDepth}
-use Rattle.labelling.specs.Refusals.{refuse, check, first, noRecord, notInClue, tooDeep, noNumber}
+use Rattle.labelling.specs.Refusals.{Refusal, refuse, check, first, noRecord, notInClue, tooDeep, noNumber, rootStays}
 use Rattle.labelling.specs.Names.{Clues, placeIn}
-use Rattle.labelling.specs.Labels.{Label, same}
+use Rattle.labelling.specs.Labels.{Label}
 use Rattle.storage.specs.Store.{Element, find}
-use Rattle.storage.specs.Updates.{parentCheck, given}
-use Rattle.labelling.proofs.Tests.{Tells, passes, fails, decide}
-use Rattle.labelling.proofs.Lists.{here, there, nowhere, for-cons}
-use Rattle.labelling.proofs.LabelOrder.{same?}
-use Rattle.labelling.proofs.Refusals.{check-passed, check-failed, first-here, first-next, first-both, check-none}
+use Rattle.storage.specs.Updates.{parentCheck, given, rootStaysCheck, foundCheck}
+use Rattle.labelling.proofs.Tests.{decide}
+use Rattle.labelling.proofs.Refusals.{check-passed, check-failed, check-iff, refuse-number, first-here, first-next, first-both, check-none}
 use Rattle.labelling.proofs.Once.{stands-iff}
 use Rattle.labelling.proofs.NameTables.{placeIn-none}
-
--- no element is found for a label exactly if none has it
-pub find-none : (l : Label) (es : List Element) → find l es ≡ none ↔ ((e : Element) → e ∈ es → e .label ≡ l → ⊥)
-unfolding find
-find-none l [] = (λ h e m. absurd (nowhere m), λ h. refl)
-find-none l (x ∷ es) = go (same (x .label) l) (same? (x .label) l) (find-none l es)
-  where
-    go : (c : Bool) → Tells (x .label ≡ l) c → find l es ≡ none ↔ ((e : Element) → e ∈ es → e .label ≡ l → ⊥) →
-        cond c (some x) (find l es) ≡ none ↔ ((e : Element) → e ∈ x ∷ es → e .label ≡ l → ⊥)
-    go true (passes d) below = (λ h. absurd (Option·some-ne-none x h), λ h. absurd (h x (here refl) d))
-    go false (fails n) below = (λ h. for-cons (λ e. e .label ≡ l → ⊥) n (below .0 h), λ h. below .1 (λ e m. h e (there m)))
+use Rattle.storage.proofs.Finding.{find-none, find-mem}
 
 -- a name of a clue has a place
 pub has-place : (c : ℕ) (cs : List ℕ) → c ∈ cs → (k : ℕ) × (placeIn c cs ≡ some k)
@@ -102,3 +90,93 @@ parentCheck-iff cl (some p) name = (
       (decide (stands name (cl (p .name)))),
   λ f. subst (λ o. parentCheck cl o name ≡ none) (sym (f .stands)) (parent-passed cl (f .parent) name (f .inClue) (f .high) (f .low)),
 )
+
+-- what an entry meets at its parent, one of five, each by its facts
+data Meets (cl : Clues) (found : Option Element) (name : ℕ) : Option Refusal → Type 0 where
+  absent : found ≡ none → Meets cl found name (refuse noRecord 0)
+  unlisted : (p : Element) → found ≡ some p → (name ∈ cl (p .name) → ⊥) → Meets cl found name (refuse notInClue 0)
+  deepest : (p : Element) → found ≡ some p → name ∈ cl (p .name) → maxDepth ≤ length (p .label) → Meets cl found name (refuse tooDeep 0)
+  spent : (p : Element) → found ≡ some p → name ∈ cl (p .name) → length (p .label) < maxDepth → maxComponent < given cl p name →
+      Meets cl found name (refuse noNumber 0)
+  welcome : Meets cl found name none
+
+-- the check answers the one that it meets
+meets : (cl : Clues) (found : Option Element) (name : ℕ) → Meets cl found name (parentCheck cl found name)
+meets cl none name = rw (parent-nine cl name) (absent refl)
+meets cl (some p) name = go (decide (stands name (cl (p .name))))
+  where
+    listed : name ∈ cl (p .name) → Meets cl (some p) name (parentCheck cl (some p) name)
+    listed m = by-cases (decLt (length (p .label)) maxDepth)
+        (λ high. by-cases (decLt maxComponent (given cl p name))
+        (λ over. rw (parent-twelve cl p name m high over) (spent p refl m high over))
+        (λ low. rw (parent-passed cl p name m high (omega arith)) welcome))
+        (λ low. rw (parent-eleven cl p name m (omega arith)) (deepest p refl m (omega arith)))
+
+    go : T (stands name (cl (p .name))) ⊎ (T (stands name (cl (p .name))) → ⊥) → Meets cl (some p) name (parentCheck cl (some p) name)
+    go (inl t) = listed (stands-iff name (cl (p .name)) .0 t)
+    go (inr n) =
+        let absent-name : name ∈ cl (p .name) → ⊥ = λ m. n (stands-iff name (cl (p .name)) .1 m) in
+        rw (parent-ten cl p name absent-name) (unlisted p refl absent-name)
+
+module _ (cl : Clues) (found : Option Element) (name : ℕ) where
+  -- 9 is given exactly if no record was found
+  pub nine-iff : parentCheck cl found name ≡ refuse noRecord 0 ↔ (found ≡ none)
+  nine-iff = (told (meets cl found name), λ e. rw e (parent-nine cl name))
+    where
+      told : {o : Option Refusal} → Meets cl found name o → o ≡ refuse noRecord 0 → found ≡ none
+      told (absent e) d = e
+      told (unlisted p e n) d = absurd (omega (arith, refuse-number d))
+      told (deepest p e m h) d = absurd (omega (arith, refuse-number d))
+      told (spent p e m h k) d = absurd (omega (arith, refuse-number d))
+      told welcome d = absurd (Option·none-ne-some _ d)
+
+  -- 10 is given exactly if a record was found and the name isn't in its clue
+  pub ten-iff : parentCheck cl found name ≡ refuse notInClue 0 ↔ ((p : Element) × (found ≡ some p) × (name ∈ cl (p .name) → ⊥))
+  ten-iff = (told (meets cl found name), λ h. rw (h .1) (parent-ten cl (h .0) name (h .2)))
+    where
+      told : {o : Option Refusal} → Meets cl found name o → o ≡ refuse notInClue 0 → (p : Element) × (found ≡ some p) × (name ∈ cl (p .name) → ⊥)
+      told (absent e) d = absurd (omega (arith, refuse-number d))
+      told (unlisted p e n) d = (p, e, n)
+      told (deepest p e m h) d = absurd (omega (arith, refuse-number d))
+      told (spent p e m h k) d = absurd (omega (arith, refuse-number d))
+      told welcome d = absurd (Option·none-ne-some _ d)
+
+  -- 11 is given exactly if the name is in the clue of a record found at depth 15
+  pub eleven-iff : parentCheck cl found name ≡ refuse tooDeep 0 ↔
+      ((p : Element) × (found ≡ some p) × name ∈ cl (p .name) × (maxDepth ≤ length (p .label)))
+  eleven-iff = (told (meets cl found name), λ h. rw (h .1) (parent-eleven cl (h .0) name (h .2) (h .3)))
+    where
+      told : {o : Option Refusal} → Meets cl found name o → o ≡ refuse tooDeep 0 →
+          (p : Element) × (found ≡ some p) × name ∈ cl (p .name) × (maxDepth ≤ length (p .label))
+      told (absent e) d = absurd (omega (arith, refuse-number d))
+      told (unlisted p e n) d = absurd (omega (arith, refuse-number d))
+      told (deepest p e m h) d = (p, e, m, h)
+      told (spent p e m h k) d = absurd (omega (arith, refuse-number d))
+      told welcome d = absurd (Option·none-ne-some _ d)
+
+  -- 12 is given exactly if the name is in the clue of a record found above depth 15 and the number given is over 65,534
+  pub twelve-iff : parentCheck cl found name ≡ refuse noNumber 0 ↔
+      ((p : Element) × (found ≡ some p) × name ∈ cl (p .name) × (length (p .label) < maxDepth) × (maxComponent < given cl p name))
+  twelve-iff = (told (meets cl found name), λ h. rw (h .1) (parent-twelve cl (h .0) name (h .2) (h .3) (h .4)))
+    where
+      told : {o : Option Refusal} → Meets cl found name o → o ≡ refuse noNumber 0 →
+          (p : Element) × (found ≡ some p) × name ∈ cl (p .name) × (length (p .label) < maxDepth) × (maxComponent < given cl p name)
+      told (absent e) d = absurd (omega (arith, refuse-number d))
+      told (unlisted p e n) d = absurd (omega (arith, refuse-number d))
+      told (deepest p e m h) d = absurd (omega (arith, refuse-number d))
+      told (spent p e m h k) d = (p, e, m, h, k)
+      told welcome d = absurd (Option·none-ne-some _ d)
+
+-- 14 is not given exactly if the label has a component: the root's has none
+pub rootStays-iff : (l : Label) → rootStaysCheck l ≡ none ↔ (0 < length l)
+unfolding rootStaysCheck
+rootStays-iff l = check-iff (ltb 0 (length l)) rootStays 0 (ltb→lt 0 (length l), lt→ltb 0 (length l))
+
+-- a record was found exactly if one of the elements has the label
+pub found-iff : (l : Label) (es : List Element) → foundCheck (find l es) ≡ none ↔ ((e : Element) × e ∈ es × (e .label ≡ l))
+unfolding foundCheck
+found-iff l es = go (find l es) refl
+  where
+    go : (o : Option Element) → find l es ≡ o → foundCheck o ≡ none ↔ ((e : Element) × e ∈ es × (e .label ≡ l))
+    go none d = (λ e. absurd (Option·some-ne-none _ e), λ h. absurd (find-none l es .0 d (h .0) (h .1) (h .2)))
+    go (some p) d = (λ e. let (m, f) = find-mem l es p d in (p, m, f), λ h. refl)

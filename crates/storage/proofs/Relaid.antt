@@ -54,6 +54,12 @@ unfolding test
 test-none true r o e = tt
 test-none false r o e = absurd (Option·some-ne-none r e)
 
+-- a passed test leaves the rules after it
+pub test-rest : (b : Bool) (r : Rule) (o : Option Rule) → test b r o ≡ none → o ≡ none
+unfolding test
+test-rest true r o e = e
+test-rest false r o e = absurd (Option·some-ne-none r e)
+
 -- a rule that is kept leaves the rules after it
 pub test-passes : (b : Bool) (r : Rule) (o : Option Rule) → T b → test b r o ≡ o
 unfolding test

@@ -1,17 +1,17 @@
 -- Sizes of slices and counts, and how many elements are read and placed.
-use mathlib.Core.Path.{_≡_, refl, ap}
+use mathlib.Core.Path.{_≡_, refl, ap, _∙_}
 use mathlib.Core.Logic.{_↔_, Iff·trans}
 use mathlib.Core.Bool.{Bool, true, false, cond, _&&_, _||_}
 use mathlib.Core.List.{[], _∷_, List}
 use mathlib.Core.Option.{none}
 use Prim.Native.Nat.{zero, suc, ℕ, _%_, _*_, _<_, _≤_, _+_}
-use lib.ListN.{drop, length}
+use lib.ListN.{drop, length, length-map}
 use lib.Dec.{T, ltb, leb, eqb, leb→le, ltb→lt, lt→ltb, le→leb}
 use Rattle.labelling.specs.Basics.{_∈_}
 use Rattle.labelling.specs.Limits.{recordSize, maxElements}
 use Rattle.labelling.specs.Refusals.{noSpace, storeSize}
 use Rattle.labelling.specs.Labels.{Label, within, before}
-use Rattle.storage.specs.Store.{elements, isSlice, sizeCheck, records, Element}
+use Rattle.storage.specs.Store.{readElement, elements, isSlice, sizeCheck, records, Element}
 use Rattle.storage.specs.Updates.{placed, spaceCheck}
 use Rattle.labelling.proofs.Tests.{eqb-alike, and-facts}
 use Rattle.labelling.proofs.Lists.{for-cons, here, there}
@@ -51,11 +51,16 @@ space-iff len count =
     check-iff _ noSpace 0 (and-facts (leb (recordSize * (count + 1)) len) (ltb count maxElements)
     (leb→le (recordSize * (count + 1)) len, le→leb (recordSize * (count + 1)) len) (ltb→lt count maxElements, lt→ltb count maxElements))
 
--- as many records are read as there are
+-- as many records are read as are asked for
+pub length-records : (count : ℕ) (ws : List ℕ) → length (records count ws) ≡ count
+unfolding records
+length-records zero ws = refl
+length-records (suc n) ws = ap suc (length-records n (drop recordSize ws))
+
+-- and as many elements
 pub length-elements-read : (count : ℕ) (ws : List ℕ) → length (elements count ws) ≡ count
-unfolding elements records
-length-elements-read zero ws = refl
-length-elements-read (suc n) ws = ap suc (length-elements-read n (drop recordSize ws))
+unfolding elements
+length-elements-read count ws = length-map (records count ws) readElement ∙ length-records count ws
 
 -- placing adds one element
 pub length-placed : (l : Label) (new : Element) (es : List Element) → length (placed l new es) ≡ suc (length es)

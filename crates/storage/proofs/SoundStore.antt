@@ -1,26 +1,27 @@
 -- What holds of a sound store, from a run or not.
 use mathlib.Core.Path.{_≡_, refl, sym, ap, subst, _∙_}
-use mathlib.Core.Logic.{_⊎_, ⊎-map}
-use mathlib.Core.Bool.{Bool, true, false, cond, _||_, not}
+use mathlib.Core.Bool.{Bool}
 use mathlib.Core.List.{List, [], _∷_, map}
-use mathlib.Core.Option.{Option, none, some, Option·none-ne-some, Option·some-ne-none}
-use Prim.Native.Nat.{ℕ, suc, _≤_, _<_}
+use mathlib.Core.Option.{none, some}
+use Prim.Native.Nat.{ℕ, zero, suc, _≤_, _<_}
 use native.Mathlib.Omega.{arith}
 use lib.ListN.{length, getD, take, drop, length-take, length-drop}
 use lib.Seq.{length-take-le}
-use lib.Dec.{T, ltb, eqb, leb→le, ltb→lt}
-use Rattle.labelling.specs.Basics.{_∈_, elim?, all, last, Ascending, none-left, one-more}
-use Rattle.labelling.specs.Limits.{maxName, maxDepth, labelSize, recordSize}
-use Rattle.labelling.specs.Names.{Clues, led, isName}
-use Rattle.labelling.specs.Labels.{Label, before, same, above, nameAt, endOf, decode, labelOf}
-use Rattle.storage.specs.Store.{Element, Rule, readElement, records, elements, find, test, laidOut, leads, closed, broken, fault, parentRule, nameRule, lastRule, nextRule}
-use Rattle.labelling.proofs.Tests.{Tells, passes, or-iff, and-iff, eqb-alike}
+use lib.Dec.{T}
+use Rattle.labelling.specs.Basics.{_∈_, all, last, Ascending, none-left, one-more}
+use Rattle.labelling.specs.Limits.{maxName, labelSize, recordSize}
+use Rattle.labelling.specs.Names.{Clues, led}
+use Rattle.labelling.specs.Labels.{Label, before, above, nameAt, endOf, decode, labelOf}
+use Rattle.storage.specs.Store.{Element, readElement, records, elements, laidOut, broken, fault, soundCheck, layoutRule, orderRule, parentRule, nameRule, lastRule, nextRule}
 use Rattle.labelling.proofs.Lists.{here, there, nowhere, for-cons}
-use Rattle.labelling.proofs.LabelOrder.{before-order, above-last, above-before, same?}
+use Rattle.labelling.proofs.LabelOrder.{before-order, above-last, above-before, precedes-iff}
 use Rattle.labelling.proofs.Decode.{name-child}
 use Rattle.labelling.proofs.LabelWords.{GoodLabel, isLabel-iff, labelOf-good, labelOf-take}
-use Rattle.storage.proofs.Relaid.{laid-depth, test-none}
-use Rattle.storage.proofs.Faults.{fault-cons}
+use Rattle.storage.proofs.Finding.{has-first, first-mem}
+use Rattle.storage.proofs.Rules.{Closed, layout-deep, broken-none}
+use Rattle.storage.proofs.Relaid.{laid-depth, sound-laid}
+use Rattle.storage.proofs.Words.{Fit}
+use Rattle.storage.proofs.Faults.{fault-cons, sound-check}
 
 -- the order of elements by their labels
 abbrev pub ahead : Element → Element → Bool
@@ -32,10 +33,6 @@ pub record SoundElements (cl : Clues) (root : ℕ) (es : List Element) : Type 0 
   pub ordered : Ascending ahead es
   pub labelled : (e : Element) → e ∈ es → GoodLabel (e .label)
   pub named : (e : Element) → e ∈ es → nameAt cl root (e .label) ≡ some (e .name)
-
--- an element's next number is 0 where nothing may stand below it
-abbrev pub Closed : Clues → Element → Type 0
-Closed cl e = (length (cl (e .name)) ≡ 0) ⊎ (length (e .label) ≡ maxDepth) → e .next ≡ 0
 
 -- an element below another of a store: the other stands earlier, right above it, and its clue and next number allow the last component
 pub record Child (cl : Clues) (es : List Element) (e : Element) : Type 0 where
@@ -53,45 +50,6 @@ record Kept (cl : Clues) (es : List Element) (e : Element) : Type 0 where
   child : Child cl es e
   shut : Closed cl e
 
--- an element that passes the test of its next number is closed
-closed-next : (cl : Clues) (e : Element) → T (closed cl e) → Closed cl e
-unfolding closed
-closed-next cl e t h =
-    let childless : Bool = eqb (length (cl (e .name))) 0 in
-    let deepest : Bool = eqb (length (e .label)) maxDepth in
-    let k = or-iff childless deepest .1 (⊎-map (eqb-alike _ 0 .1) (eqb-alike _ maxDepth .1) h) in
-    eqb-alike (e .next) 0 .0 (go (childless || deepest) (eqb (e .next) 0) t k)
-  where
-    go : (a b : Bool) → T (not a || b) → T a → T b
-    go true b t h = t
-    go false b t h = absurd h
-
--- the element found for a label is one of the elements and has that label
-pub find-mem : (l : Label) (es : List Element) (p : Element) → find l es ≡ some p → p ∈ es × (p .label ≡ l)
-unfolding find
-find-mem l [] p e = absurd (Option·none-ne-some p e)
-find-mem l (x ∷ es) p e = go (same (x .label) l) (same? (x .label) l) e (find-mem l es p)
-  where
-    go : (c : Bool) → Tells (x .label ≡ l) c → cond c (some x) (find l es) ≡ some p → (find l es ≡ some p → p ∈ es × (p .label ≡ l)) →
-        p ∈ x ∷ es × (p .label ≡ l)
-    go true (passes h) e ih = let f : p ≡ x = cc in (here f, ap (λ (p : Element). p .label) f ∙ h)
-    go false h e ih = (there (ih e .0), ih e .1)
-
--- a component leads to the name that it is tested for
-leads-led : (clue : List ℕ) (x name : ℕ) → T (leads clue x name) → led clue x ≡ some name
-unfolding leads elim?
-leads-led clue x name t = go (led clue x) t
-  where
-    go : (o : Option ℕ) → T (elim? o false (λ c. eqb c name)) → o ≡ some name
-    go none t = absurd t
-    go (some c) t = ap some (eqb-alike c name .0 t)
-
--- a passed test leaves the rules after it
-pub test-rest : (b : Bool) (r : Rule) (o : Option Rule) → test b r o ≡ none → o ≡ none
-unfolding test
-test-rest true r o e = e
-test-rest false r o e = absurd (Option·some-ne-none r e)
-
 module _ (r : List ℕ) (laid : T (laidOut r)) where
   -- the label of a record that is laid out as it must be is good
   pub label-good : GoodLabel (readElement r .label)
@@ -107,14 +65,9 @@ module _ (r : List ℕ) (laid : T (laidOut r)) where
 -- record 0 of a sound store is the root's, has a name and keeps the rule of the next number
 first-kept : (cl : Clues) (r : List ℕ) → broken cl [] r ≡ none →
     (readElement r .label ≡ []) × (readElement r .name ≤ maxName) × Closed cl (readElement r)
-unfolding broken isName
 first-kept cl r e =
-    let (laid, flat) = and-iff (laidOut r) (eqb (getD r 0 0) 0) .0 (test-none _ _ _ e) in
-    let e′ = test-rest _ _ _ e in (
-      empty (readElement r .label) (label-length r laid ∙ eqb-alike _ 0 .0 flat),
-      leb→le _ maxName (test-none _ _ _ e′),
-      closed-next cl (readElement r) (test-none _ _ _ (test-rest _ _ _ e′)),
-    )
+    let kept = broken-none cl [] r .0 e in
+    (empty (readElement r .label) (label-length r (sound-laid cl [] r e) ∙ kept layoutRule .rootOnly .1 refl), kept nameRule, kept nextRule)
   where
     empty : (l : Label) → length l ≡ 0 → l ≡ []
     empty [] h = refl
@@ -123,36 +76,28 @@ first-kept cl r e =
 -- a sound record after others keeps the rules
 next-kept : (cl : Clues) (previous : Element) (done : List Element) (r : List ℕ) → broken cl (previous ∷ done) r ≡ none →
     T (ahead previous (readElement r)) × Kept cl (previous ∷ done) (readElement r)
-unfolding broken elim?
 next-kept cl previous done r e =
-    let (laid, deep) = and-iff (laidOut r) (ltb 0 (getD r 0 0)) .0 (test-none _ _ _ e) in
-    let e′ = test-rest _ _ _ e in
-    (test-none _ _ _ e′, go laid (ltb→lt 0 _ deep) (find (above (readElement r .label)) (previous ∷ done)) refl (test-rest _ _ _ e′))
-  where
-    x : Element
-    x = readElement r
-
-    go : T (laidOut r) → 0 < getD r 0 0 → (o : Option Element) → find (above (x .label)) (previous ∷ done) ≡ o →
-        elim? o (some parentRule) (λ p. test (leads (cl (p .name)) (last (x .label)) (x .name)) nameRule
-        (test (ltb (last (x .label)) (p .next)) lastRule (test (closed cl x) nextRule none))) ≡ none → Kept cl (previous ∷ done) x
-    go laid deep none f e = absurd (Option·some-ne-none _ e)
-    go laid deep (some p) f e =
-        let (stands, above) = find-mem _ (previous ∷ done) p f in
-        let deeper : 0 < length (x .label) = omega (arith, label-length r laid) in
-        let e′ = test-rest _ _ _ e in
-        record {
-          labelled = label-good r laid;
-          child = record {
-            deeper = deeper;
-            parent = p;
-            stands = stands;
-            earlier = subst (λ l. T (before l (x .label))) (sym above) (above-before (x .label) deeper);
-            rightAbove = above;
-            named = leads-led _ _ _ (test-none _ _ _ e);
-            below = ltb→lt _ _ (test-none _ _ _ e′);
-          };
-          shut = closed-next cl x (test-none _ _ _ (test-rest _ _ _ e′));
-        }
+    let x : Element = readElement r in
+    let kept = broken-none cl (previous ∷ done) r .0 e in
+    let laid = sound-laid cl (previous ∷ done) r e in
+    let deeper : 0 < length (x .label) = omega (arith, label-length r laid, layout-deep (kept layoutRule)) in
+    let (p, stands, label) = kept parentRule in
+    let (q, parent) = has-first (above (x .label)) (previous ∷ done) p stands label in (
+      precedes-iff (previous .label) (x .label) .1 (kept orderRule),
+      record {
+        labelled = label-good r laid;
+        child = record {
+          deeper = deeper;
+          parent = q;
+          stands = first-mem parent;
+          earlier = subst (λ l. T (before l (x .label))) (sym (parent .labelled)) (above-before (x .label) deeper);
+          rightAbove = parent .labelled;
+          named = kept nameRule q parent;
+          below = kept lastRule q parent;
+        };
+        shut = kept nextRule;
+      },
+    )
 
 -- the label of an element below a named one decodes to its name
 child-named : (cl : Clues) (root : ℕ) (es : List Element) (e : Element) (c : Child cl es e) →
@@ -267,3 +212,9 @@ module _ (cl : Clues) (n : ℕ) (ws : List ℕ) (sound : fault cl [] (records (s
   pub sound-closed : (e : Element) → e ∈ elements (suc n) ws → Closed cl e
   unfolding elements records
   sound-closed = for-cons (Closed cl) (first-kept cl (take recordSize ws) (both-sound .0) .2) (λ e m. others .kept e m .shut)
+
+-- the labels of a sound store fit their records
+pub sound-fit : (cl : Clues) (ws : List ℕ) (count : ℕ) → soundCheck cl count ws ≡ none → Fit (elements count ws)
+unfolding elements records
+sound-fit cl ws zero sound e m = absurd (nowhere m)
+sound-fit cl ws (suc n) sound e m = sound-elements cl n ws (sound-check cl (suc n) ws .0 sound) .labelled e m .shallow

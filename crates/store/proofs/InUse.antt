@@ -1,5 +1,5 @@
 -- The records in use of a sound store: their words, and the element that a label's place reads as.
-use Prim.Native.Nat.{ℕ, zero, suc, _+_, _-_, _*_, _<_, _≤_}
+use Prim.Native.Nat.{ℕ, _+_, _-_, _*_, _<_, _≤_}
 use mathlib.Core.Path.{_≡_, sym, ap, subst, _∙_}
 use mathlib.Core.Bool.{true}
 use mathlib.Core.List.{List}
@@ -11,13 +11,10 @@ use Rattle.labelling.specs.Basics.{elim?}
 use Rattle.labelling.specs.Limits.{maxDepth, recordSize}
 use Rattle.labelling.specs.Names.{Clues}
 use Rattle.labelling.specs.Labels.{Label}
-use Rattle.storage.specs.Store.{Element, storeWords, readElement, records, elements, find, elementAt, soundCheck}
-use Rattle.labelling.proofs.Lists.{nowhere}
+use Rattle.storage.specs.Store.{Element, storeWords, readElement, elements, find, elementAt, soundCheck}
 use Rattle.storage.proofs.Sizes.{length-elements-read}
 use Rattle.storage.proofs.Faults.{sound-check}
-use Rattle.storage.proofs.Words.{Fit}
 use Rattle.storage.proofs.Relaid.{relaid}
-use Rattle.storage.proofs.SoundStore.{sound-elements}
 use Rattle.records.specs.Records.{recordAt}
 use Rattle.records.proofs.Elements.{element-at}
 use Rattle.lookup.specs.Places.{placeAt, passes, leading, Searchable}
@@ -40,13 +37,7 @@ pub end-used : (count : ℕ) (ws : List ℕ) (l : Label) {end : ℕ} → end ≡
 end-used count ws l e = rw e (subtree-end count ws l)
 
 module _ (cl : Clues) (ws : List ℕ) where
-  -- the labels of a sound store fit their records
-  pub sound-fit : (count : ℕ) → soundCheck cl count ws ≡ none → Fit (elements count ws)
-  unfolding elements records
-  sound-fit zero sound e m = absurd (nowhere m)
-  sound-fit (suc n) sound e m = sound-elements cl n ws (sound-check cl (suc n) ws .0 sound) .labelled e m .shallow
-
-  -- its records in use are the words of its elements
+  -- the records in use of a sound store are the words of its elements
   pub sound-words : (count : ℕ) → soundCheck cl count ws ≡ none → recordSize * count ≤ length ws → storeWords (elements count ws) ≡ take (recordSize * count) ws
   sound-words count sound room = relaid cl count _ ws room (sound-check cl count ws .0 sound)
 

@@ -1,0 +1,175 @@
+-- The refusals of a child-name file, 1 to 3: each by its facts, with the pair that it names.
+use mathlib.Core.Path.{_≡_, refl, sym, subst, _∙_}
+use mathlib.Core.Logic.{_↔_, Iff·rfl, Iff·trans, Iff·and, _⊎_, inl, inr, ⊎-elim, by-cases}
+use mathlib.Core.Bool.{Bool, true, false}
+use mathlib.Core.List.{List, [], _∷_, reverseAux}
+use mathlib.Core.Option.{none, some, Option·none-ne-some}
+use Prim.Native.Nat.{ℕ, zero, suc, _+_, _%_, _≤_, _<_}
+use native.Mathlib.Decide.{decLt}
+use native.Mathlib.Nat.{zero-add}
+use native.Mathlib.Omega.{arith}
+use lib.ListN.{length, getD, take}
+use lib.Dec.{T}
+use Rattle.labelling.specs.Basics.{_∈_, stands}
+use Rattle.labelling.specs.Limits.{maxName, maxFile}
+use Rattle.labelling.specs.Refusals.{Refusal, refuse, check, first, fileLength, nameTooHigh, pairAgain}
+use Rattle.labelling.specs.Names.{Pair, pairs, children, pairCheck, pairsCheck, fileCheck}
+use Rattle.labelling.proofs.Tests.{decide}
+use Rattle.labelling.proofs.Lists.{here, there, here-or-there, nowhere}
+use Rattle.labelling.proofs.Refusals.{check-none, check-passed, check-refuses, refuse-number, first-last, first-both, first-here, first-next, first-some, first-place, last-place, Never, never-none, never-check, never-first, never-nil}
+use Rattle.labelling.proofs.Once.{Differ}
+use Rattle.labelling.proofs.NamePairs.{noPair, goodPairs-iff, pair-named, pair-stood, pair-new, pairsCheck-iff, length-iff}
+
+-- of two checks the first gives its number exactly if its fact does not hold, the second if the first's holds and its own does not
+two-checks : {P Q : Type 0} (a b : Bool) (m n i : ℕ) → (m ≡ n → ⊥) → T a ↔ P → T b ↔ Q →
+    (first (check a m i ∷ check b n i ∷ []) ≡ refuse m i ↔ (P → ⊥)) × (first (check a m i ∷ check b n i ∷ []) ≡ refuse n i ↔ (P × (Q → ⊥)))
+unfolding check first
+two-checks true true m n i other e f = (
+  (λ h. absurd (Option·none-ne-some _ h), λ h. absurd (h (e .0 tt))),
+  (λ h. absurd (Option·none-ne-some _ h), λ h. absurd (h .1 (f .0 tt))),
+)
+two-checks true false m n i other e f = (
+  (λ h. absurd (other (sym (refuse-number h))), λ h. absurd (h (e .0 tt))),
+  (λ h. (e .0 tt, f .1), λ h. refl),
+)
+two-checks false b m n i other e f = ((λ h. e .1, λ h. refl), (λ h. absurd (other (refuse-number h)), λ h. absurd (e .1 (h .0))))
+
+module _ (i : ℕ) (earlier : List Pair) (q : Pair) where
+  -- which number a pair is refused by
+  pair-numbers : (pairCheck i earlier q ≡ refuse nameTooHigh i ↔ (((q .parent ≤ maxName) × (q .child ≤ maxName)) → ⊥)) ×
+      (pairCheck i earlier q ≡ refuse pairAgain i ↔ (((q .parent ≤ maxName) × (q .child ≤ maxName)) × ((q ∈ earlier → ⊥) → ⊥)))
+  unfolding pairCheck
+  pair-numbers = two-checks _ _ nameTooHigh pairAgain i (λ e. omega arith) (pair-named q) (pair-new earlier q)
+
+  -- 2 is given exactly if one of its names is above 63
+  pair-high : pairCheck i earlier q ≡ refuse nameTooHigh i ↔ ((maxName < q .parent) ⊎ (maxName < q .child))
+  pair-high = Iff·trans (pair-numbers .0) (
+    λ n. by-cases (decLt maxName (q .parent)) inl (λ a. by-cases (decLt maxName (q .child)) inr (λ b. absurd (n (omega arith, omega arith)))),
+    ⊎-elim (λ h n. omega (arith, n .0)) (λ h n. omega (arith, n .1)),
+  )
+
+  -- 3 is given exactly if it holds names and stood before
+  pair-again : pairCheck i earlier q ≡ refuse pairAgain i ↔ (((q .parent ≤ maxName) × (q .child ≤ maxName)) × q ∈ earlier)
+  pair-again = Iff·trans (pair-numbers .1) (
+    λ h. (h .0, ⊎-elim (pair-stood earlier q .0) (λ n. absurd (h .1 (λ m. n (pair-stood earlier q .1 m)))) (decide (stands (q .child) (children earlier (q .parent))))),
+    λ h. (h .0, λ n. n (h .1)),
+  )
+
+-- pair j is the first of some pairs that is refused, after earlier ones
+record Fault (i : ℕ) (earlier qs : List Pair) (j : ℕ) (r : Refusal) : Type 0 where
+  inside : j < length qs
+  accepted : pairsCheck i earlier (take j qs) ≡ none
+  refused : pairCheck (i + j) (reverseAux (take j qs) earlier) (getD qs j noPair) ≡ some r
+
+-- where pairs are refused, one of them is the first that is refused
+fault-told : (i : ℕ) (earlier qs : List Pair) (r : Refusal) → pairsCheck i earlier qs ≡ some r → (j : ℕ) × Fault i earlier qs j r
+unfolding pairsCheck
+fault-told i earlier [] r e = absurd (Option·none-ne-some r e)
+fault-told i earlier (q ∷ qs) r e = ⊎-elim now (λ h. later (h .0) (fault-told (suc i) (q ∷ earlier) qs r (sym (first-last _) ∙ h .1))) (first-some _ _ r e)
+  where
+    now : pairCheck i earlier q ≡ some r → (j : ℕ) × Fault i earlier (q ∷ qs) j r
+    now d = let z : i + 0 ≡ i = omega arith in (0, record { inside = omega arith; accepted = refl; refused = rw z d })
+
+    later : pairCheck i earlier q ≡ none → (j : ℕ) × Fault (suc i) (q ∷ earlier) qs j r → (j : ℕ) × Fault i earlier (q ∷ qs) j r
+    later d f =
+        let (j, h) = f in
+        let z : i + suc j ≡ suc i + j = omega arith in
+        (suc j, record { inside = omega (arith, h .inside); accepted = first-next _ _ d ∙ h .accepted; refused = rw z (h .refused) })
+
+-- pairs are refused as the first of them that is refused
+fault-says : (i : ℕ) (earlier qs : List Pair) (j : ℕ) (r : Refusal) → Fault i earlier qs j r → pairsCheck i earlier qs ≡ some r
+unfolding pairsCheck
+fault-says i earlier [] j r f = absurd (omega (arith, f .inside))
+fault-says i earlier (q ∷ qs) zero r f = let z : i + 0 ≡ i = omega arith in first-here r _ _ (rw z at (f .refused))
+fault-says i earlier (q ∷ qs) (suc j) r f =
+    let z : i + suc j ≡ suc i + j = omega arith in
+    let (this, rest) = first-both _ _ .0 (f .accepted) in
+    first-next _ _ this ∙ fault-says (suc i) (q ∷ earlier) qs j r (record { inside = omega (arith, f .inside); accepted = rest; refused = rw z at (f .refused) })
+
+-- a pair is refused at its own place
+pairCheck-place : (i : ℕ) (earlier : List Pair) (q : Pair) (r : Refusal) → pairCheck i earlier q ≡ some r → r .place ≡ i
+unfolding pairCheck
+pairCheck-place i earlier q r = first-place _ nameTooHigh i _ r (last-place _ pairAgain i r)
+
+-- pairs are never refused by 1
+pairs-never : (i : ℕ) (earlier qs : List Pair) → Never fileLength (pairsCheck i earlier qs)
+unfolding pairsCheck pairCheck
+pairs-never i earlier [] = never-none fileLength
+pairs-never i earlier (q ∷ qs) =
+    never-first fileLength _ _
+    (never-first fileLength _ _ (never-check fileLength _ nameTooHigh i (λ e. omega arith))
+    (never-first fileLength _ _ (never-check fileLength _ pairAgain i (λ e. omega arith)) (never-nil fileLength)))
+    (never-first fileLength _ _ (pairs-never (suc i) (q ∷ earlier) qs) (never-nil fileLength))
+
+-- the members of a list put in front of another, the last one first, are those of both
+reverse-mem : {A : Type 0} (l m : List A) (a : A) → a ∈ reverseAux l m ↔ (a ∈ l ⊎ a ∈ m)
+reverse-mem [] m a = (inr, ⊎-elim (λ h. absurd (nowhere h)) (λ h. h))
+reverse-mem (x ∷ l) m a = Iff·trans (reverse-mem l (x ∷ m) a) (
+  ⊎-elim (λ h. inl (there h)) (λ h. ⊎-elim (λ e. inl (here e)) inr (here-or-there h)),
+  ⊎-elim (λ h. ⊎-elim (λ e. inr (here e)) inl (here-or-there h)) (λ h. inr (there h)),
+)
+
+-- pair j of a file of an accepted length: the pairs before it hold names, and none of them stands twice
+pub record AtPair (bytes : List ℕ) (j : ℕ) : Type 0 where
+  pub even : length bytes % 2 ≡ 0
+  pub small : length bytes ≤ maxFile
+  pub inside : j < length (pairs bytes)
+  pub names : (q : Pair) → q ∈ take j (pairs bytes) → (q .parent ≤ maxName) × (q .child ≤ maxName)
+  pub once : Differ noPair (take j (pairs bytes))
+
+module _ (bytes : List ℕ) where
+  -- a file is refused by another number than 1 exactly if its length is accepted and its pairs are refused by it
+  file-pairs : (n j : ℕ) → (fileLength ≡ n → ⊥) →
+      fileCheck bytes ≡ refuse n j ↔ (((length bytes % 2 ≡ 0) × (length bytes ≤ maxFile)) × (pairsCheck 0 [] (pairs bytes) ≡ refuse n j))
+  unfolding fileCheck
+  file-pairs n j other = (
+    λ e. ⊎-elim (λ h. absurd (never-check n _ fileLength 0 other _ h refl)) (λ h. (length-iff bytes .0 (check-none _ fileLength 0 (h .0)), sym (first-last _) ∙ h .1))
+        (first-some _ _ _ e),
+    λ h. first-next _ _ (check-passed _ fileLength 0 (length-iff bytes .1 (h .0))) ∙ h .1,
+  )
+
+  -- 1 is given exactly if the length is odd or over 8,192
+  pub one-iff : fileCheck bytes ≡ refuse fileLength 0 ↔ (((length bytes % 2 ≡ 0) × (length bytes ≤ maxFile)) → ⊥)
+  unfolding fileCheck
+  one-iff = (
+    λ e. ⊎-elim (check-refuses _ fileLength 0 (length-iff bytes) .0) (λ h. absurd (pairs-never 0 [] (pairs bytes) _ (sym (first-last _) ∙ h .1) refl)) (first-some _ _ _ e),
+    λ n. first-here _ _ _ (check-refuses _ fileLength 0 (length-iff bytes) .1 n),
+  )
+
+  module _ (n j : ℕ) (other : fileLength ≡ n → ⊥) where
+    -- a file is refused by another number at a pair exactly if the pairs before it are good and it is refused by that number
+    file-at : fileCheck bytes ≡ refuse n j ↔
+        (AtPair bytes j × (pairCheck j (reverseAux (take j (pairs bytes)) []) (getD (pairs bytes) j noPair) ≡ refuse n j))
+    file-at = Iff·trans (file-pairs n j other) (
+      λ h.
+          let (k, f) = fault-told 0 [] (pairs bytes) _ (h .1) in
+          let at : k ≡ j = omega (arith, pairCheck-place _ _ _ _ (f .refused)) in
+          let g : Fault 0 [] (pairs bytes) j (record { number = n; place = j }) = subst (λ k. Fault 0 [] (pairs bytes) k (record { number = n; place = j })) at f in
+          let (names, once) = goodPairs-iff (take j (pairs bytes)) .0 (pairsCheck-iff 0 [] (take j (pairs bytes)) .0 (g .accepted) .0) in (
+            record { even = h .0 .0; small = h .0 .1; inside = g .inside; names = names; once = once },
+            rw zero-add at (g .refused),
+          ),
+      λ h. (
+        (h .0 .even, h .0 .small),
+        fault-says 0 [] (pairs bytes) j _ (record {
+          inside = h .0 .inside;
+          accepted = pairsCheck-iff 0 [] (take j (pairs bytes)) .1 (goodPairs-iff (take j (pairs bytes)) .1 (h .0 .names, h .0 .once), λ q m. nowhere);
+          refused = rw zero-add (h .1);
+        }),
+      ),
+    )
+
+  -- 2 is given at a pair exactly if the pairs before it are good and one of its names is above 63
+  pub two-iff : (j : ℕ) → fileCheck bytes ≡ refuse nameTooHigh j ↔
+      (AtPair bytes j × ((maxName < getD (pairs bytes) j noPair .parent) ⊎ (maxName < getD (pairs bytes) j noPair .child)))
+  two-iff j = Iff·trans (file-at nameTooHigh j (λ e. omega arith)) (Iff·and Iff·rfl (pair-high j _ (getD (pairs bytes) j noPair)))
+
+  -- 3 is given at a pair exactly if the pairs before it are good, its names are 0 to 63 and it is one of those before it
+  pub three-iff : (j : ℕ) → fileCheck bytes ≡ refuse pairAgain j ↔
+      (AtPair bytes j × (((getD (pairs bytes) j noPair .parent ≤ maxName) × (getD (pairs bytes) j noPair .child ≤ maxName)) ×
+      getD (pairs bytes) j noPair ∈ take j (pairs bytes)))
+  three-iff j = Iff·trans (file-at pairAgain j (λ e. omega arith)) (Iff·and Iff·rfl
+      (Iff·trans (pair-again j _ (getD (pairs bytes) j noPair)) (Iff·and Iff·rfl (Iff·trans (reverse-mem (take j (pairs bytes)) [] _) front))))
+    where
+      front : {q : Pair} → (q ∈ take j (pairs bytes) ⊎ q ∈ []) ↔ q ∈ take j (pairs bytes)
+      front = (⊎-elim (λ h. h) (λ h. absurd (nowhere h)), inl)
