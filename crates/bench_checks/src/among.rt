@@ -5,12 +5,12 @@ use crate::slices::front;
 use crate::slices::same;
 use crate::slices::spot;
 use crate::slices::word;
-use labels::CHILD;
-use labels::DEEPER_DESCENDANT;
-use labels::KinshipAnswer;
+use kinship::CHILD;
+use kinship::DEEPER_DESCENDANT;
+use kinship::KinshipAnswer;
+use kinship::SAME;
+use kinship::kinship;
 use labels::Label;
-use labels::SAME;
-use labels::kinship;
 use records::Store;
 
 // The label of record r.

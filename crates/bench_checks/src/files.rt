@@ -5,8 +5,8 @@ use crate::show::verdict;
 use name_files::bench_table;
 use name_files::read_names;
 use names::Table;
-use names::check_table;
 use names::clue_len;
+use table_checks::check_table;
 
 // Names 0 to 63, in a row that has no filling.
 pub const ALL_NAMES: [u8; 64] = [

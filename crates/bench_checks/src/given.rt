@@ -1,13 +1,13 @@
 // Numbers given to children.
 use crate::show::number;
 use crate::show::say;
-use labels::Number;
-use labels::next_number;
 use name_files::bench_table;
 use names::Place;
 use names::Table;
 use names::clue_len;
 use names::place_of;
+use numbers::Number;
+use numbers::next_number;
 use refusals::Refusal;
 
 // The bench's names.

@@ -1,13 +1,13 @@
 // Cutting: the stream of the labels that a name asks for, written from a sound store.
 use labels::Label;
 use names::Table;
-use names::asks;
 use records::Store;
 use refusals::Listing;
 use refusals::Refusal;
 use refusals::Verdict;
 use refusals::refuse;
 use soundness::store_check;
+use twigs::asks;
 use twigs::is_asked;
 use words::put_label;
 ghost use mathlib.Core.Path.{_≡_};

@@ -10,11 +10,11 @@ use Rattle.labelling.specs.Labels.{decodeCall}
 use Rattle.refusals.specs.Answers.{refusalOf}
 use Rattle.refusals.specs.declared.Refusal.{Refusal}
 use Rattle.refusals.specs.declared.Verdict.the-variants as verdict
-use Rattle.labels.specs.Answers.{kinshipOf, followsOf}
-use Rattle.labels.specs.declared.KinshipAnswer.{KinshipAnswer}
-use Rattle.labels.specs.declared.KinshipAnswer.the-variants as kinship
-use Rattle.labels.specs.declared.FollowsAnswer.{FollowsAnswer}
-use Rattle.labels.specs.declared.FollowsAnswer.the-variants as follows
+use Rattle.kinship.specs.Answers.{kinshipOf, followsOf}
+use Rattle.kinship.specs.declared.KinshipAnswer.{KinshipAnswer}
+use Rattle.kinship.specs.declared.KinshipAnswer.the-variants as kinship
+use Rattle.kinship.specs.declared.FollowsAnswer.{FollowsAnswer}
+use Rattle.kinship.specs.declared.FollowsAnswer.the-variants as follows
 use Rattle.decoding.specs.Answers.{decodingOf}
 use Rattle.decoding.specs.declared.Decoding.{Decoding}
 use Rattle.name_files.specs.Rows.{tableIn}

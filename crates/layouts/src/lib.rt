@@ -1,6 +1,6 @@
 // Layouts: labels as they lie in sixteen words, tested and compared with no way out between the words, so that the compiler takes several at once.
+use label_order::shared_from;
 use labels::Label;
-use labels::shared_from;
 ghost use mathlib.Core.Path.{_≡_};
 ghost use Prim.Native.Nat.{_+_, _<_, _≤_, min};
 ghost use lib.ListN.{length, getD, take, drop};
@@ -134,7 +134,7 @@ fn four_shared(a: &[u16], b: &[u16], i: usize) -> usize
     (same / WORD_BITS) as usize
 }
 
-// How many leading components two labels share: four at a time, then the rest. Of short parts `labels::shared` tells it sooner.
+// How many leading components two labels share: four at a time, then the rest. Of short parts `label_order::shared` tells it sooner.
 pub fn shared_part(a: &[u16], b: &[u16]) -> usize
     ensures { λ r. ⌜ r ≡ model.shared (now (a .entry)) (now (b .entry)) ⌝ }
 {

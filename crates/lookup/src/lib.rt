@@ -1,6 +1,6 @@
 // Looking up a label among the records of a store.
-use labels::before;
-use labels::shared;
+use label_order::before;
+use label_order::shared;
 use records::label_at;
 ghost use mathlib.Core.Path.{_≡_};
 ghost use mathlib.Core.Bool.{true};

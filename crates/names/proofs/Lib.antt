@@ -1,6 +1,3 @@
--- The lookups of a row, then the check of a table.
+-- The lookups of a row, then what they tell of a child.
 pub mod Rows
-pub mod Marks
 pub mod Children
-pub mod Lens
-pub mod Asking

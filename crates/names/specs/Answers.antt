@@ -1,12 +1,6 @@
 -- What the answers of the code tell, by the definitions of `labelling`.
 use Prim.Native.Nat.{ℕ}
 use mathlib.Core.Option.{Option, none, some}
-use mathlib.Core.Bool.{Bool}
-use mathlib.Core.List.{List, map}
-use lib.ListN.{length}
-use lib.Dec.{eqb}
-use Rattle.labelling.specs.Limits.{filler}
-use Rattle.labelling.specs.Names.{namesOf}
 use Rattle.names.specs.declared.Place.{Place}
 use Rattle.names.specs.declared.Place.the-variants as place
 use Rattle.names.specs.declared.Child.{Child}
@@ -21,11 +15,3 @@ placeOf (some k) = place.At k
 abbrev pub childOf : Option ℕ → Child
 childOf none = child.Nowhere
 childOf (some c) = child.Name c
-
--- a number is the filling
-abbrev pub isFiller : ℕ → Bool
-isFiller x = eqb x filler
-
--- how many names each row has
-unfoldable pub lensOf : List (List ℕ) → List ℕ
-lensOf rows = map (λ row. length (namesOf row)) rows

@@ -1,15 +1,8 @@
 // Names, and what may stand below them: the child-name table and its lookups.
-use refusals::Refusal;
-use refusals::Verdict;
-use refusals::refuse;
 ghost use mathlib.Core.Path.{_≡_};
-ghost use mathlib.Core.Bool.{_&&_, not};
-ghost use lib.ListN.{length, getD};
-ghost use Rattle.labelling.specs.Basics.{all};
+ghost use lib.ListN.{length};
 ghost use Rattle.labelling.specs.Names as model;
-ghost use Rattle.patterns.specs.Matches as matches;
-ghost use Rattle.refusals.specs.Answers.{verdictOf};
-ghost use Rattle.names.specs.Answers.{placeOf, childOf, isFiller, lensOf};
+ghost use Rattle.names.specs.Answers.{placeOf, childOf};
 
 // The highest name.
 pub const MAX_NAME: u8 = 63;
@@ -36,14 +29,14 @@ pub enum Child {
 }
 
 // A row as a slice; a proof learns here how long it is.
-fn whole(row: &[u8; 64]) -> &[u8]
+pub fn whole(row: &[u8; 64]) -> &[u8]
     ensures { λ r. ⌜ (now r ≡ now (row .entry)) × (length (now r) ≡ 64) ⌝ }
 {
     row
 }
 
 // The rows as a slice.
-fn rows_of(table: &Table) -> &[[u8; 64]]
+pub fn rows_of(table: &Table) -> &[[u8; 64]]
     ensures { λ r. ⌜ (now r ≡ now (table .entry)) × (length (now r) ≡ 64) ⌝ }
 {
     table
@@ -61,7 +54,7 @@ fn row_of(table: &Table, parent: usize) -> [u8; 64]
 }
 
 // How many names a row has before its filling.
-fn row_len(row: &[u8]) -> usize
+pub fn row_len(row: &[u8]) -> usize
     ensures { λ r. ⌜ r ≡ length (model.namesOf (now (row .entry))) ⌝ }
 {
     let mut i: usize = 0;
@@ -134,114 +127,4 @@ pub fn child_among(table: &Table, parent: usize, n: usize, component: u16) -> Ch
 {
     let row = row_of(table, parent);
     row_child(whole(&row), n, component)
-}
-
-// How many names each clue has.
-pub fn clue_lens(table: &Table) -> [usize; 64]
-    ensures { λ r. ⌜ r ≡ lensOf (now (table .entry)) ⌝ }
-{
-    let rows = rows_of(table);
-    let mut lens = [0usize; 64];
-    let mut i: usize = 0;
-    while i < rows.len() {
-        let row = rows[i];
-        lens[i] = row_len(whole(&row));
-        i += 1;
-    }
-    lens
-}
-
-// The lengths of the clues as a slice.
-pub fn lens_slice(lens: &[usize; 64]) -> &[usize]
-    ensures { λ r. ⌜ (now r ≡ now (lens .entry)) × (length (now r) ≡ 64) ⌝ }
-{
-    lens
-}
-
-// How many names the clue of a name has, by the lengths of all.
-pub fn clue_len_of(lens: &[usize], parent: usize) -> usize
-    ensures { λ n. ⌜ n ≡ getD (now (lens .entry)) parent 0 ⌝ }
-{
-    if lens.len() <= parent {
-        return 0;
-    }
-    lens[parent]
-}
-
-// A name is the one asked for.
-pub fn asks(want: u8, name: u16) -> bool
-    ensures { λ b. ⌜ b ≡ matches.asks want name ⌝ }
-{
-    want == ANY_NAME || want as u16 == name
-}
-
-// Every number is a name, and none stands twice.
-fn names_once(names: &[u8]) -> bool
-    ensures { λ r. ⌜ r ≡ (all model.isName (now (names .entry)) && not (model.twice (now (names .entry)))) ⌝ }
-{
-    let mut seen = [false; 64];
-    let mut i: usize = 0;
-    while i < names.len() {
-        let x = names[i];
-        if MAX_NAME < x {
-            return false;
-        }
-        let c = x as usize;
-        if seen[c] {
-            return false;
-        }
-        seen[c] = true;
-        i += 1;
-    }
-    true
-}
-
-// Every number is the filling: the least is, and no byte is greater. The loop has no exit, so it may take many bytes a step.
-fn all_filler(rest: &[u8]) -> bool
-    ensures { λ r. ⌜ r ≡ all isFiller (now (rest .entry)) ⌝ }
-{
-    let mut least: u8 = FILLER;
-    let mut i: usize = 0;
-    while i < rest.len() {
-        let x = rest[i];
-        if x < least {
-            least = x;
-        }
-        i += 1;
-    }
-    least == FILLER
-}
-
-// A row holds names, each once, and then the filling alone. Most rows have no names, so that is asked first.
-fn row_good(row: &[u8]) -> bool
-    ensures { λ r. ⌜ r ≡ model.goodRow (now (row .entry)) ⌝ }
-{
-    if all_filler(row) {
-        return true;
-    }
-    let n = row_len(row);
-    names_once(&row[..n]) && all_filler(&row[n..])
-}
-
-// The check of a lent table, 22.
-pub fn table_check(table: &Table) -> Verdict
-    ensures { λ r. ⌜ r ≡ verdictOf (model.tableCheck (now (table .entry))) ⌝ }
-{
-    let rows = rows_of(table);
-    let mut p: usize = 0;
-    while p < rows.len() {
-        let row = rows[p];
-        if !row_good(whole(&row)) {
-            return refuse(Refusal::BAD_TABLE, 0);
-        }
-        p += 1;
-    }
-    Verdict::Passed
-}
-
-// The check of a table, 22.
-pub fn check_table(table: Table) -> Verdict
-    ensures { λ r. ⌜ r ≡ verdictOf (model.tableCheck table) ⌝ }
-{
-    table_check(&table)
 }

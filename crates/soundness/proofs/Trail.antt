@@ -16,7 +16,7 @@ use Rattle.labelling.proofs.Tests.{decide}
 use Rattle.labelling.proofs.LabelOrder.{before-one-way, before-nonroot, above-last, extend-before, within-iff, within-self}
 use Rattle.labelling.proofs.Kinship.{shared-alike, shared-most}
 use Rattle.storage.proofs.Finding.{find-mem}
-use Rattle.labels.proofs.Order.{order-none}
+use Rattle.label_order.proofs.Order.{order-none}
 use Rattle.records.specs.Records.{recordAt}
 
 -- the elements of the first r records, the last one first

@@ -27,9 +27,9 @@ use Rattle.names.specs.Answers.{placeOf}
 use Rattle.names.proofs.Children.{place-at, place-absent}
 use Rattle.names.specs.declared.Place.{Place}
 use Rattle.names.specs.declared.Place.the-variants as place
-use Rattle.labels.specs.Answers.{numberOf, numberFor}
-use Rattle.labels.specs.declared.Number.{Number}
-use Rattle.labels.specs.declared.Number.the-variants as number
+use Rattle.numbers.specs.Answers.{numberOf, numberFor}
+use Rattle.numbers.specs.declared.Number.{Number}
+use Rattle.numbers.specs.declared.Number.the-variants as number
 use Rattle.records.specs.Records.{recordAt}
 use Rattle.records.proofs.Parts.{record-word, record-label, record-long}
 use Rattle.store.specs.declared.Entry.{Entry}

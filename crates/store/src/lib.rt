@@ -1,9 +1,7 @@
 // A store over a lent slice of words and a count: new store, entry and deletion.
 use labels::Label;
-use labels::Number;
 use labels::check_label;
 use labels::components;
-use labels::next_number;
 use lookup::Found;
 use lookup::lookup;
 use lookup::subtree_end;
@@ -14,6 +12,8 @@ use names::Place;
 use names::Table;
 use names::clue_len;
 use names::place_of;
+use numbers::Number;
+use numbers::next_number;
 use records::Store;
 use refusals::Refusal;
 use refusals::Verdict;

@@ -6,7 +6,7 @@ use mathlib.Core.Bool.{_&&_}
 use lib.Dec.{eqb}
 use lib.ListN.{length, drop}
 use Rattle.labelling.specs.Basics.{all}
-use Rattle.labels.specs.Answers.{isZero}
+use Rattle.labels.specs.Words.{isZero}
 use Rattle.labelling.proofs.Scans.{zeros-on, zeros-end}
 use Rattle.labels.proofs.all_zero.Statement.{statement}
 use Rattle.labels.proofs.all_zero.Tie as tie

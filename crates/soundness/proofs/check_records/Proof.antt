@@ -1,6 +1,6 @@
 -- `soundness::check_records` meets its contract: a fault is refused by its rule's number.
 use borrow.Author.Needs.{needs}
-use Rattle.names.proofs.Lens.{lens-lent}
+use Rattle.clue_lengths.proofs.Lens.{lens-lent}
 use Rattle.soundness.proofs.Checks.{records-sound, records-fault}
 use Rattle.soundness.proofs.check_records.Statement.{statement}
 use Rattle.soundness.proofs.check_records.Tie as tie

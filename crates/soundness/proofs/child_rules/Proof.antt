@@ -1,7 +1,7 @@
 -- `soundness::child_rules` meets its contract: the rules are tested in the paper's order.
 use borrow.Author.Needs.{needs, fits-under}
 use mir.Facts.{fits-widen}
-use Rattle.names.proofs.Lens.{len-is}
+use Rattle.clue_lengths.proofs.Lens.{len-is}
 use Rattle.soundness.proofs.Rules.{shared-few, below-order, below-parent, below-name, below-last, below-next, below-kept}
 use Rattle.soundness.proofs.child_rules.Statement.{statement}
 use Rattle.soundness.proofs.child_rules.Tie as tie

@@ -1,6 +1,6 @@
 -- `soundness::root_rules` meets its contract: the name, then the next number.
 use borrow.Author.Needs.{needs}
-use Rattle.names.proofs.Lens.{len-is}
+use Rattle.clue_lengths.proofs.Lens.{len-is}
 use Rattle.soundness.proofs.Rules.{root-high, root-next, root-kept}
 use Rattle.soundness.proofs.root_rules.Statement.{statement}
 use Rattle.soundness.proofs.root_rules.Tie as tie

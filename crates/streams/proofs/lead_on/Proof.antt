@@ -7,7 +7,7 @@ use lib.ListN.{length, getD, take}
 use lib.Dec.{T}
 use Rattle.labelling.specs.Limits.{labelSize}
 use Rattle.labelling.specs.Names.{cluesOf}
-use Rattle.names.proofs.Lens.{len-is}
+use Rattle.clue_lengths.proofs.Lens.{len-is}
 use Rattle.streams.specs.Streams.{Along}
 use Rattle.streams.proofs.Leading.{lead-along, lead-end, lead-stuck, lead-next}
 use Rattle.streams.proofs.lead_on.Statement.{statement}

@@ -1,0 +1,19 @@
+-- What the answers of the code tell, by the definitions of `labelling`.
+use Prim.Native.Nat.{ℕ}
+use mathlib.Core.Bool.{Bool}
+use Rattle.labelling.specs.Refusals.{Reply, value, refused}
+use Rattle.refusals.specs.Answers.{refusalOf}
+use Rattle.kinship.specs.declared.KinshipAnswer.{KinshipAnswer}
+use Rattle.kinship.specs.declared.KinshipAnswer.the-variants as kinship
+use Rattle.kinship.specs.declared.FollowsAnswer.{FollowsAnswer}
+use Rattle.kinship.specs.declared.FollowsAnswer.the-variants as follows
+
+-- kinship, or the refusal
+abbrev pub kinshipOf : Reply ℕ → KinshipAnswer
+kinshipOf (value k) = kinship.Is k
+kinshipOf (refused r) = kinship.Refused (refusalOf r)
+
+-- whether the first label follows, or the refusal
+abbrev pub followsOf : Reply Bool → FollowsAnswer
+followsOf (value b) = follows.Is b
+followsOf (refused r) = follows.Refused (refusalOf r)

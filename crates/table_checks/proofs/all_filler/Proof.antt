@@ -1,0 +1,31 @@
+-- `table_checks::all_filler` meets its contract: the numbers before the index are filling if the least of them is.
+use Prim.Native.Nat.{_≤_, _-_}
+use mathlib.Core.Logic.{⊎-elim}
+use borrow.Author.Needs.{needs}
+use lib.ListN.{length}
+use Rattle.labelling.specs.Limits.{filler}
+use Rattle.table_checks.proofs.Marks.{Least, least-end, least-less, least-same}
+use Rattle.table_checks.proofs.all_filler.Statement.{statement}
+use Rattle.table_checks.proofs.all_filler.Tie as tie
+
+abbrev Inv-loop : tie.InvT-loop
+Inv-loop rest least₀ i₀ least i = (i ≤ length rest) × (least ≤ filler) × Least rest i least
+
+abbrev μ-loop : tie.MeasureT-loop
+μ-loop rest least₀ i₀ least i = length rest - i
+
+loop-again : tie.Need-loop-again Inv-loop μ-loop
+loop-again c = ⊎-elim (λ w. search (least-less, needs)) (λ w. search (least-same, c .before .shared-slice-known .given, needs)) (c .if1 .came)
+
+pub all-filler-spec : {M : Type 1} → statement M
+all-filler-spec =
+    tie.close
+    (tie.spec
+    Inv-loop
+    μ-loop
+    (λ c. search needs)
+    (λ c. search needs)
+    (λ c. search needs)
+    (λ c. search needs)
+    loop-again
+    (λ c. search (least-end, needs)))
