@@ -6,6 +6,8 @@ use names::TABLE_SIZE;
 use names::Table;
 use names::clue_len;
 use names::place_of;
+use names::rows_of;
+use names::whole;
 use refusals::Refusal;
 use refusals::Verdict;
 use refusals::refuse;
@@ -119,20 +121,6 @@ pub fn table_in(bytes: &[u8]) -> Table
         return [[NO_NAME; 64]; 64];
     }
     table_of(bytes)
-}
-
-// A row as a slice.
-fn whole(row: &[u8; 64]) -> &[u8]
-    ensures { λ r. ⌜ (now r ≡ now (row .entry)) × (length (now r) ≡ 64) ⌝ }
-{
-    row
-}
-
-// The rows as a slice.
-fn rows_of(table: &Table) -> &[[u8; 64]]
-    ensures { λ r. ⌜ (now r ≡ now (table .entry)) × (length (now r) ≡ 64) ⌝ }
-{
-    table
 }
 
 // A row, written to bytes from a place on.
