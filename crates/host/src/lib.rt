@@ -1,33 +1,6 @@
 // The calls for a host program in C or Rust: plain numbers and slices alone. Each answers the refusal's number, 0 where it is taken; the last slice
 // is told the refusal's place and the call's value. A table is 4,096 bytes, row after row; bytes of another length are refused by 22.
-use answers::tell;
-use answers::tell_label;
-use answers::tell_names;
-use cutting::cut;
-use decoding::decode;
-use kinship::FollowsAnswer;
-use kinship::KinshipAnswer;
-use kinship::follows;
-use kinship::kinship;
-use matching::match_twig;
-use name_files::TABLE_BYTES;
-use name_files::bench_table;
-use name_files::put_table;
-use name_files::read_names;
-use name_files::table_in;
-use names::FILLER;
-use names::Table;
-use refusals::Refusal;
-use refusals::Verdict;
-use refusals::refuse;
-use soundness::check_store;
-use store::delete;
-use store::enter;
-use store::new_store;
-use table_checks::check_table;
-use twigs::check_twig;
 ghost use mathlib.Core.Path.{_≡_};
-ghost use mathlib.Core.Bool.{cond};
 ghost use Rattle.labelling.specs.Labels.{decodeCall, kinshipCall, followsCall};
 ghost use Rattle.labelling.specs.Names.{tableCheck};
 ghost use Rattle.patterns.specs.Twigs.{twigCheck};
@@ -37,7 +10,10 @@ ghost use Rattle.storage.specs.Cutting as cutting;
 ghost use Rattle.soundness.specs.Rules.{storeCheck};
 ghost use Rattle.name_files.specs.Rows.{tableIn};
 ghost use Rattle.answers.specs.Reports.{fitted, report, reportOf};
-ghost use Rattle.host.specs.Calls.{kinshipReport, followsReport, readReport, tableRead, benchNumber, benchBytes, changeReport, listingReport};
+ghost use Rattle.host_tables.specs.Calls.{readReport, tableRead, benchNumber, benchBytes};
+ghost use Rattle.host_labels.specs.Calls.{kinshipReport, followsReport};
+ghost use Rattle.host_stores.specs.Calls.{changeReport};
+ghost use Rattle.host_lists.specs.Calls.{listingReport};
 
 // Reads a child-name file into a table: 22, 1, 2, 3. A refused file leaves a table of empty clues.
 #[no_mangle]
@@ -45,13 +21,7 @@ pub extern "C" fn jiszteruk_read_names(file: &[u8], table: &mut [u8], answer: &m
     ensures told { λ n. ⌜ report n (now (answer .exit)) ≡ readReport (now (file .entry)) (now (table .entry)) (now (answer .entry)) ⌝ }
     ensures written { λ n. ⌜ now (table .exit) ≡ tableRead (now (file .entry)) (now (table .entry)) ⌝ }
 {
-    if table.len() != TABLE_BYTES {
-        return tell(refuse(Refusal::BAD_TABLE, 0), 0, answer);
-    }
-    let mut rows: Table = [[FILLER; 64]; 64];
-    let verdict = read_names(file, &mut rows);
-    put_table(&rows, table);
-    tell(verdict, 0, answer)
+    host_tables::read_names(file, table, answer)
 }
 
 // The bench's own table: 22.
@@ -60,12 +30,7 @@ pub extern "C" fn jiszteruk_bench_table(table: &mut [u8]) -> u8
     ensures number { λ n. ⌜ n ≡ benchNumber (now (table .entry)) ⌝ }
     ensures written { λ n. ⌜ now (table .exit) ≡ benchBytes (now (table .entry)) ⌝ }
 {
-    if table.len() != TABLE_BYTES {
-        return Refusal::BAD_TABLE;
-    }
-    let rows = bench_table();
-    put_table(&rows, table);
-    0
+    host_tables::bench_table(table)
 }
 
 // The check of a table: 22.
@@ -73,7 +38,7 @@ pub extern "C" fn jiszteruk_bench_table(table: &mut [u8]) -> u8
 pub extern "C" fn jiszteruk_check_table(table: &[u8], answer: &mut [usize]) -> u8
     ensures { λ n. ⌜ report n (now (answer .exit)) ≡ reportOf (tableCheck (tableIn (now (table .entry)))) 0 (now (answer .entry)) ⌝ }
 {
-    tell(check_table(table_in(table)), 0, answer)
+    host_checks::check_table(table, answer)
 }
 
 // The names that a label decodes to, sixteen of them: 22, 21, 15, 16. A refusal gives zeros.
@@ -88,11 +53,7 @@ pub extern "C" fn jiszteruk_decode(
     ensures told { λ n. ⌜ report n (now (answer .exit)) ≡ reportOf (decodeCall (tableIn (now (table .entry))) root (now (label .entry)) .refusal) 0 (now (answer .entry)) ⌝ }
     ensures named { λ n. ⌜ now (names .exit) ≡ fitted (decodeCall (tableIn (now (table .entry))) root (now (label .entry)) .names) (now (names .entry)) ⌝ }
 {
-    let decoded = decode(table_in(table), root, label);
-    let path = decoded.names;
-    tell_names(&path, names);
-    let verdict = decoded.verdict;
-    tell(verdict, 0, answer)
+    host_labels::decode(table, root, label, names, answer)
 }
 
 // Kinship of a first label to a second: 15. The value is 0 to 5, 0 in a refusal.
@@ -100,18 +61,7 @@ pub extern "C" fn jiszteruk_decode(
 pub extern "C" fn jiszteruk_kinship(first: &[u16], second: &[u16], answer: &mut [usize]) -> u8
     ensures { λ n. ⌜ report n (now (answer .exit)) ≡ kinshipReport (kinshipCall (now (first .entry)) (now (second .entry))) (now (answer .entry)) ⌝ }
 {
-    let kin = kinship(first, second);
-    match kin {
-        KinshipAnswer::Is(k) => tell(Verdict::Passed, k as usize, answer),
-        KinshipAnswer::Refused(r) => tell(Verdict::Refused(r), 0, answer),
-    }
-}
-
-// 1 for yes, 0 for no.
-fn number_of(yes: bool) -> usize
-    ensures { λ r. ⌜ r ≡ cond yes 1 0 ⌝ }
-{
-    if yes { 1 } else { 0 }
+    host_labels::kinship(first, second, answer)
 }
 
 // Whether a first label follows a second: 15. The value is 1 for yes, 0 for no and in a refusal.
@@ -119,11 +69,7 @@ fn number_of(yes: bool) -> usize
 pub extern "C" fn jiszteruk_follows(first: &[u16], second: &[u16], answer: &mut [usize]) -> u8
     ensures { λ n. ⌜ report n (now (answer .exit)) ≡ followsReport (followsCall (now (first .entry)) (now (second .entry))) (now (answer .entry)) ⌝ }
 {
-    let after = follows(first, second);
-    match after {
-        FollowsAnswer::Is(yes) => tell(Verdict::Passed, number_of(yes), answer),
-        FollowsAnswer::Refused(r) => tell(Verdict::Refused(r), 0, answer),
-    }
+    host_labels::follows(first, second, answer)
 }
 
 // A new store: 18, 21. The value is the count.
@@ -138,9 +84,7 @@ pub extern "C" fn jiszteruk_new_store(
     ensures told { λ n. ⌜ report n (now (answer .exit)) ≡ changeReport (updates.newStore (now (store .entry)) root payload0 payload1) (now (answer .entry)) ⌝ }
     ensures written { λ n. ⌜ now (store .exit) ≡ updates.newStore (now (store .entry)) root payload0 payload1 .slice ⌝ }
 {
-    let opened = new_store(store, root, [payload0, payload1]);
-    let verdict = opened.verdict;
-    tell(verdict, opened.count, answer)
+    host_stores::new_store(store, root, payload0, payload1, answer)
 }
 
 // The check of a store: 22, 18, 19.
@@ -153,7 +97,7 @@ pub extern "C" fn jiszteruk_check_store(
 ) -> u8
     ensures { λ n. ⌜ report n (now (answer .exit)) ≡ reportOf (storeCheck (tableIn (now (table .entry))) (now (store .entry)) count) 0 (now (answer .entry)) ⌝ }
 {
-    tell(check_store(table_in(table), store, count), 0, answer)
+    host_checks::check_store(table, store, count, answer)
 }
 
 // An entry: 22, 18, 19, 15, 9, 10, 11, 12, 13. The value is the count; the new label is sixteen words, zeros in a refusal.
@@ -173,18 +117,17 @@ pub extern "C" fn jiszteruk_enter(
     ensures written { λ n. ⌜ now (store .exit) ≡ updates.enter (tableIn (now (table .entry))) (now (store .entry)) count (now (parent .entry)) name payload0 payload1 .slice ⌝ }
     ensures labelled { λ n. ⌜ now (label .exit) ≡ fitted (updates.enter (tableIn (now (table .entry))) (now (store .entry)) count (now (parent .entry)) name payload0 payload1 .label) (now (label .entry)) ⌝ }
 {
-    let entered = enter(
-        table_in(table),
+    host_stores::enter(
+        table,
         store,
         count,
         parent,
         name,
-        [payload0, payload1],
-    );
-    let words = entered.label;
-    tell_label(&words, label);
-    let verdict = entered.verdict;
-    tell(verdict, entered.count, answer)
+        payload0,
+        payload1,
+        label,
+        answer,
+    )
 }
 
 // A deletion of the element with a label and of all below it: 22, 18, 19, 15, 14, 9. The value is the count.
@@ -199,9 +142,7 @@ pub extern "C" fn jiszteruk_delete(
     ensures told { λ n. ⌜ report n (now (answer .exit)) ≡ changeReport (updates.delete (tableIn (now (table .entry))) (now (store .entry)) count (now (label .entry))) (now (answer .entry)) ⌝ }
     ensures written { λ n. ⌜ now (store .exit) ≡ updates.delete (tableIn (now (table .entry))) (now (store .entry)) count (now (label .entry)) .slice ⌝ }
 {
-    let deleted = delete(table_in(table), store, count, label);
-    let verdict = deleted.verdict;
-    tell(verdict, deleted.count, answer)
+    host_stores::delete(table, store, count, label, answer)
 }
 
 // The stream of a name, or of all for 255: 22, 18, 19, 7, 17. The value is how many labels it has.
@@ -217,9 +158,7 @@ pub extern "C" fn jiszteruk_cut(
     ensures told { λ n. ⌜ report n (now (answer .exit)) ≡ listingReport (cutting.cut (tableIn (now (table .entry))) (now (store .entry)) count name (now (out .entry))) (now (answer .entry)) ⌝ }
     ensures written { λ n. ⌜ now (out .exit) ≡ cutting.cut (tableIn (now (table .entry))) (now (store .entry)) count name (now (out .entry)) .output ⌝ }
 {
-    let listed = cut(table_in(table), store, count, name, out);
-    let verdict = listed.verdict;
-    tell(verdict, listed.count, answer)
+    host_lists::cut(table, store, count, name, out, answer)
 }
 
 // The check of a twig: 4 to 8.
@@ -227,7 +166,7 @@ pub extern "C" fn jiszteruk_cut(
 pub extern "C" fn jiszteruk_check_twig(twig: &[u8], answer: &mut [usize]) -> u8
     ensures { λ n. ⌜ report n (now (answer .exit)) ≡ reportOf (twigCheck (now (twig .entry))) 0 (now (answer .entry)) ⌝ }
 {
-    tell(check_twig(twig), 0, answer)
+    host_checks::check_twig(twig, answer)
 }
 
 // All matches of a twig over the streams of its leaves: 22, 21, 4 to 8, 20, 17. The value is how many there are.
@@ -244,7 +183,5 @@ pub extern "C" fn jiszteruk_match(
     ensures told { λ n. ⌜ report n (now (answer .exit)) ≡ listingReport (matchCall (tableIn (now (table .entry))) root (now (twig .entry)) (now (counts .entry)) (now (buffer .entry)) (now (out .entry))) (now (answer .entry)) ⌝ }
     ensures written { λ n. ⌜ now (out .exit) ≡ matchCall (tableIn (now (table .entry))) root (now (twig .entry)) (now (counts .entry)) (now (buffer .entry)) (now (out .entry)) .output ⌝ }
 {
-    let matched = match_twig(table_in(table), root, twig, counts, buffer, out);
-    let verdict = matched.verdict;
-    tell(verdict, matched.count, answer)
+    host_lists::match_twig(table, root, twig, counts, buffer, out, answer)
 }

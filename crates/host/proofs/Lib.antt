@@ -1,4 +1,0 @@
-pub mod Labels
-pub mod Tables
-pub mod Stores
-pub mod Lists

@@ -1,0 +1,9 @@
+-- What a host program is told of a list that is written.
+use Prim.Native.Nat.{ℕ}
+use mathlib.Core.List.{List}
+use Rattle.labelling.specs.Outputs.{Listing}
+use Rattle.answers.specs.Reports.{Report, reportOf}
+
+-- cutting and matching tell how many labels or matches there are
+abbrev pub listingReport : Listing → List ℕ → Report
+listingReport a answer = reportOf (a .refusal) (a .count) answer

@@ -1,0 +1,71 @@
+// Stores for a host program: a new one, entry and deletion. The value is the count of records in use.
+use answers::tell;
+use answers::tell_label;
+use name_files::table_in;
+ghost use mathlib.Core.Path.{_≡_};
+ghost use Rattle.storage.specs.Updates as updates;
+ghost use Rattle.name_files.specs.Rows.{tableIn};
+ghost use Rattle.answers.specs.Reports.{fitted, report};
+ghost use Rattle.host_stores.specs.Calls.{changeReport};
+
+// A new store: 18, 21. The value is the count.
+pub fn new_store(
+    store: &mut [u16],
+    root: u8,
+    payload0: u16,
+    payload1: u16,
+    answer: &mut [usize],
+) -> u8
+    ensures told { λ n. ⌜ report n (now (answer .exit)) ≡ changeReport (updates.newStore (now (store .entry)) root payload0 payload1) (now (answer .entry)) ⌝ }
+    ensures written { λ n. ⌜ now (store .exit) ≡ updates.newStore (now (store .entry)) root payload0 payload1 .slice ⌝ }
+{
+    let opened = store::new_store(store, root, [payload0, payload1]);
+    let verdict = opened.verdict;
+    tell(verdict, opened.count, answer)
+}
+
+// An entry: 22, 18, 19, 15, 9, 10, 11, 12, 13. The value is the count; the new label is sixteen words, zeros in a refusal.
+pub fn enter(
+    table: &[u8],
+    store: &mut [u16],
+    count: usize,
+    parent: &[u16],
+    name: u8,
+    payload0: u16,
+    payload1: u16,
+    label: &mut [u16],
+    answer: &mut [usize],
+) -> u8
+    ensures told { λ n. ⌜ report n (now (answer .exit)) ≡ changeReport (updates.enter (tableIn (now (table .entry))) (now (store .entry)) count (now (parent .entry)) name payload0 payload1) (now (answer .entry)) ⌝ }
+    ensures written { λ n. ⌜ now (store .exit) ≡ updates.enter (tableIn (now (table .entry))) (now (store .entry)) count (now (parent .entry)) name payload0 payload1 .slice ⌝ }
+    ensures labelled { λ n. ⌜ now (label .exit) ≡ fitted (updates.enter (tableIn (now (table .entry))) (now (store .entry)) count (now (parent .entry)) name payload0 payload1 .label) (now (label .entry)) ⌝ }
+{
+    let entered = store::enter(
+        table_in(table),
+        store,
+        count,
+        parent,
+        name,
+        [payload0, payload1],
+    );
+    let words = entered.label;
+    tell_label(&words, label);
+    let verdict = entered.verdict;
+    tell(verdict, entered.count, answer)
+}
+
+// A deletion of the element with a label and of all below it: 22, 18, 19, 15, 14, 9. The value is the count.
+pub fn delete(
+    table: &[u8],
+    store: &mut [u16],
+    count: usize,
+    label: &[u16],
+    answer: &mut [usize],
+) -> u8
+    ensures told { λ n. ⌜ report n (now (answer .exit)) ≡ changeReport (updates.delete (tableIn (now (table .entry))) (now (store .entry)) count (now (label .entry))) (now (answer .entry)) ⌝ }
+    ensures written { λ n. ⌜ now (store .exit) ≡ updates.delete (tableIn (now (table .entry))) (now (store .entry)) count (now (label .entry)) .slice ⌝ }
+{
+    let deleted = store::delete(table_in(table), store, count, label);
+    let verdict = deleted.verdict;
+    tell(verdict, deleted.count, answer)
+}

@@ -1,0 +1,72 @@
+-- What is told of a table that is read or written, and what is left in it.
+-- Assumes nothing.
+use Prim.Native.Nat.{ℕ, _*_}
+use mathlib.Core.Path.{_≡_, refl, sym, ap, _∙_}
+use mathlib.Core.Bool.{cond}
+use mathlib.Core.List.{List}
+use lib.Dec.{eqb}
+use lib.ListN.{length}
+use Rattle.labelling.specs.Basics.{joined}
+use Rattle.labelling.specs.Limits.{tableSize}
+use Rattle.labelling.specs.Refusals as model
+use Rattle.labelling.specs.Names.{readNames}
+use Rattle.labelling.specs.Examples.{benchTable}
+use Rattle.labelling.proofs.Tests.{is-true, is-false, eqb-alike}
+use Rattle.refusals.specs.Answers.{verdictOf}
+use Rattle.refusals.specs.declared.Verdict.{Verdict}
+use Rattle.name_files.specs.Answers.{Read, read, readOf}
+use Rattle.answers.specs.Reports.{Report, reportBy, reportOf}
+use Rattle.answers.proofs.Verdicts.{told-check}
+use Rattle.host_tables.specs.Calls.{isTable, readReport, tableRead, benchNumber, benchBytes}
+
+-- a slice that is no table's
+module _ (table : List ℕ) (size : length table ≡ tableSize * tableSize → ⊥) where
+  no-table : {A : Type 0} (a b : A) → cond (isTable table) a b ≡ b
+  no-table a b = ap (λ t. cond t a b) (is-false (isTable table) (λ t. size (eqb-alike (length table) (tableSize * tableSize) .0 t)))
+
+  -- is refused by 22
+  pub read-no-table : (file answer : List ℕ) {v : Verdict} {x : Report} → v ≡ verdictOf (model.refuse model.badTable 0) → x ≡ reportBy v 0 answer → x ≡ readReport file table answer
+  unfolding readReport
+  read-no-table file answer e told =
+      told-check (model.refuse model.badTable 0) 0 answer e told ∙ sym (no-table (reportOf (readNames file .refusal) 0 answer) (reportOf (model.refuse model.badTable 0) 0 answer))
+
+  -- and left alone
+  pub no-table-read : (file : List ℕ) → table ≡ tableRead file table
+  unfolding tableRead
+  no-table-read file = sym (no-table (joined (readNames file .table)) table)
+
+  -- for the bench's own table too
+  pub bench-no-number : 22 ≡ benchNumber table
+  unfolding benchNumber
+  bench-no-number = sym (no-table 0 22)
+
+  pub bench-no-bytes : table ≡ benchBytes table
+  unfolding benchBytes
+  bench-no-bytes = sym (no-table (joined benchTable) table)
+
+-- a slice that is a table's
+module _ (table : List ℕ) (size : length table ≡ tableSize * tableSize) where
+  a-table : {A : Type 0} (a b : A) → cond (isTable table) a b ≡ a
+  a-table a b = ap (λ t. cond t a b) (is-true (isTable table) (eqb-alike (length table) (tableSize * tableSize) .1 size))
+
+  module _ (file : List ℕ) {v : Verdict} {rows : List (List ℕ)} (is : read v rows ≡ readOf (readNames file)) where
+    -- is told what the reader answers
+    pub read-told : (answer : List ℕ) {x : Report} → x ≡ reportBy v 0 answer → x ≡ readReport file table answer
+    unfolding readReport
+    read-told answer told =
+        told-check (readNames file .refusal) 0 answer (ap (λ (r : Read). r .verdict) is) told
+        ∙ sym (a-table (reportOf (readNames file .refusal) 0 answer) (reportOf (model.refuse model.badTable 0) 0 answer))
+
+    -- and gets the table read
+    pub read-written : {left : List ℕ} → left ≡ joined rows → left ≡ tableRead file table
+    unfolding tableRead
+    read-written e = e ∙ ap (λ (r : Read). joined (r .table)) is ∙ sym (a-table (joined (readNames file .table)) table)
+
+  -- gets the bench's own table
+  pub bench-number : 0 ≡ benchNumber table
+  unfolding benchNumber
+  bench-number = sym (a-table 0 22)
+
+  pub bench-written : {rows : List (List ℕ)} {left : List ℕ} → rows ≡ benchTable → left ≡ joined rows → left ≡ benchBytes table
+  unfolding benchBytes
+  bench-written e f = f ∙ ap joined e ∙ sym (a-table (joined benchTable) table)

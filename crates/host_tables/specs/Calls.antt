@@ -1,0 +1,32 @@
+-- What a host program is told of a table that is read or written.
+use Prim.Native.Nat.{ℕ, _*_}
+use mathlib.Core.Bool.{Bool, cond}
+use mathlib.Core.List.{List}
+use lib.ListN.{length}
+use lib.Dec.{eqb}
+use Rattle.labelling.specs.Basics.{joined}
+use Rattle.labelling.specs.Limits.{tableSize}
+use Rattle.labelling.specs.Refusals.{refuse, badTable}
+use Rattle.labelling.specs.Names.{readNames}
+use Rattle.labelling.specs.Examples.{benchTable}
+use Rattle.answers.specs.Reports.{Report, reportOf}
+
+-- a lent slice has room for a table, and for nothing else
+abbrev pub isTable : List ℕ → Bool
+isTable table = eqb (length table) (tableSize * tableSize)
+
+-- reading a file into a slice: 22 where it is no table's, else what the reader answers
+unfoldable pub readReport : List ℕ → List ℕ → List ℕ → Report
+readReport file table answer = cond (isTable table) (reportOf (readNames file .refusal) 0 answer) (reportOf (refuse badTable 0) 0 answer)
+
+-- the table read, its rows one after the other; a slice that is no table's is left alone
+unfoldable pub tableRead : List ℕ → List ℕ → List ℕ
+tableRead file table = cond (isTable table) (joined (readNames file .table)) table
+
+-- the number for the bench's own table: 22 where the slice is no table's
+unfoldable pub benchNumber : List ℕ → ℕ
+benchNumber table = cond (isTable table) 0 badTable
+
+-- the bench's own table, its rows one after the other
+unfoldable pub benchBytes : List ℕ → List ℕ
+benchBytes table = cond (isTable table) (joined benchTable) table

@@ -1,0 +1,39 @@
+// Tables for a host program: one read from a child-name file, and the bench's own. A table is 4,096 bytes, row after row; a slice of another length is
+// refused by 22 and left alone.
+use answers::tell;
+use name_files::TABLE_BYTES;
+use name_files::put_table;
+use names::FILLER;
+use names::Table;
+use refusals::Refusal;
+use refusals::refuse;
+ghost use mathlib.Core.Path.{_≡_};
+ghost use Rattle.answers.specs.Reports.{report};
+ghost use Rattle.host_tables.specs.Calls.{readReport, tableRead, benchNumber, benchBytes};
+
+// Reads a child-name file into a table: 22, 1, 2, 3. A refused file leaves a table of empty clues.
+pub fn read_names(file: &[u8], table: &mut [u8], answer: &mut [usize]) -> u8
+    ensures told { λ n. ⌜ report n (now (answer .exit)) ≡ readReport (now (file .entry)) (now (table .entry)) (now (answer .entry)) ⌝ }
+    ensures written { λ n. ⌜ now (table .exit) ≡ tableRead (now (file .entry)) (now (table .entry)) ⌝ }
+{
+    if table.len() != TABLE_BYTES {
+        return tell(refuse(Refusal::BAD_TABLE, 0), 0, answer);
+    }
+    let mut rows: Table = [[FILLER; 64]; 64];
+    let verdict = name_files::read_names(file, &mut rows);
+    put_table(&rows, table);
+    tell(verdict, 0, answer)
+}
+
+// The bench's own table: 22.
+pub fn bench_table(table: &mut [u8]) -> u8
+    ensures number { λ n. ⌜ n ≡ benchNumber (now (table .entry)) ⌝ }
+    ensures written { λ n. ⌜ now (table .exit) ≡ benchBytes (now (table .entry)) ⌝ }
+{
+    if table.len() != TABLE_BYTES {
+        return Refusal::BAD_TABLE;
+    }
+    let rows = name_files::bench_table();
+    put_table(&rows, table);
+    0
+}
