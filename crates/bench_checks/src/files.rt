@@ -3,6 +3,7 @@ use crate::show::number;
 use crate::show::say;
 use crate::show::verdict;
 use name_files::bench_table;
+use name_files::check_names;
 use name_files::read_names;
 use names::Table;
 use names::clue_len;
@@ -76,13 +77,12 @@ pub const ALL_NAMES: [u8; 64] = [
     63,
 ];
 
-// Reads a file over the bench's table, and shows how long the clue of name 0 is then.
+// Reads a file, and shows how long the clue of name 0 is then.
 fn file(text: &[u8], bytes: &[u8]) {
     say(text);
-    let mut table = bench_table();
-    verdict(read_names(bytes, &mut table));
+    verdict(check_names(bytes));
     say(b", clue of 0: ");
-    number(clue_len(&table, 0));
+    number(clue_len(&read_names(bytes), 0));
     say(b"\n");
 }
 

@@ -128,8 +128,7 @@ fn paths() {
 
 // A name below itself, down to the deepest level.
 fn deep_path() {
-    let mut nested = bench_table();
-    read_names(&[0, 0, 0, 1], &mut nested);
+    let nested = read_names(&[0, 0, 0, 1]);
     decoded(b"fifteen deep: ", nested, 0, &DEEPEST);
 }
 

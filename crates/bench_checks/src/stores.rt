@@ -78,9 +78,7 @@ pub fn row(words: &mut [u16]) -> usize {
 
 // A table in which name 0 is a child of itself.
 pub fn nested_table() -> Table {
-    let mut t = bench_table();
-    read_names(&[0, 0], &mut t);
-    t
+    read_names(&[0, 0])
 }
 
 // The label of the last entry, and the count after it.

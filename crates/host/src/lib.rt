@@ -15,7 +15,7 @@ ghost use Rattle.host_labels.specs.Calls.{kinshipReport, followsReport};
 ghost use Rattle.host_stores.specs.Calls.{changeReport};
 ghost use Rattle.host_lists.specs.Calls.{listingReport};
 
-// Reads a child-name file into a table: 22, 1, 2, 3. A refused file leaves a table of empty clues.
+// The table of a child-name file, written to an output: 22, 1, 2, 3. A refused file gives a table of empty clues.
 #[no_mangle]
 pub extern "C" fn jiszteruk_read_names(file: &[u8], table: &mut [u8], answer: &mut [usize]) -> u8
     ensures told { λ n. ⌜ report n (now (answer .exit)) ≡ readReport (now (file .entry)) (now (table .entry)) (now (answer .entry)) ⌝ }

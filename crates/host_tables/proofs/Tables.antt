@@ -9,12 +9,12 @@ use lib.ListN.{length}
 use Rattle.labelling.specs.Basics.{joined}
 use Rattle.labelling.specs.Limits.{tableSize}
 use Rattle.labelling.specs.Refusals as model
-use Rattle.labelling.specs.Names.{readNames}
+use Rattle.labelling.specs.Names.{fileCheck, readNames}
 use Rattle.labelling.specs.Examples.{benchTable}
 use Rattle.labelling.proofs.Tests.{is-true, is-false, eqb-alike}
+use Rattle.labelling.proofs.NameFiles.{read-refusal}
 use Rattle.refusals.specs.Answers.{verdictOf}
 use Rattle.refusals.specs.declared.Verdict.{Verdict}
-use Rattle.name_files.specs.Answers.{Read, read, readOf}
 use Rattle.answers.specs.Reports.{Report, reportBy, reportOf}
 use Rattle.answers.proofs.Verdicts.{told-check}
 use Rattle.host_tables.specs.Calls.{isTable, readReport, tableRead, benchNumber, benchBytes}
@@ -49,18 +49,17 @@ module _ (table : List ℕ) (size : length table ≡ tableSize * tableSize) wher
   a-table : {A : Type 0} (a b : A) → cond (isTable table) a b ≡ a
   a-table a b = ap (λ t. cond t a b) (is-true (isTable table) (eqb-alike (length table) (tableSize * tableSize) .1 size))
 
-  module _ (file : List ℕ) {v : Verdict} {rows : List (List ℕ)} (is : read v rows ≡ readOf (readNames file)) where
-    -- is told what the reader answers
-    pub read-told : (answer : List ℕ) {x : Report} → x ≡ reportBy v 0 answer → x ≡ readReport file table answer
-    unfolding readReport
-    read-told answer told =
-        told-check (readNames file .refusal) 0 answer (ap (λ (r : Read). r .verdict) is) told
-        ∙ sym (a-table (reportOf (readNames file .refusal) 0 answer) (reportOf (model.refuse model.badTable 0) 0 answer))
+  -- is told what the check of the file answers
+  pub read-told : (file answer : List ℕ) {v : Verdict} {x : Report} → v ≡ verdictOf (fileCheck file) → x ≡ reportBy v 0 answer → x ≡ readReport file table answer
+  unfolding readReport
+  read-told file answer is told =
+      told-check (readNames file .refusal) 0 answer (is ∙ ap verdictOf (sym (read-refusal file))) told
+      ∙ sym (a-table (reportOf (readNames file .refusal) 0 answer) (reportOf (model.refuse model.badTable 0) 0 answer))
 
-    -- and gets the table read
-    pub read-written : {left : List ℕ} → left ≡ joined rows → left ≡ tableRead file table
-    unfolding tableRead
-    read-written e = e ∙ ap (λ (r : Read). joined (r .table)) is ∙ sym (a-table (joined (readNames file .table)) table)
+  -- and gets the table read
+  pub read-written : (file : List ℕ) {rows : List (List ℕ)} {left : List ℕ} → rows ≡ readNames file .table → left ≡ joined rows → left ≡ tableRead file table
+  unfolding tableRead
+  read-written file is e = e ∙ ap joined is ∙ sym (a-table (joined (readNames file .table)) table)
 
   -- gets the bench's own table
   pub bench-number : 0 ≡ benchNumber table

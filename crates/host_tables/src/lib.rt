@@ -3,15 +3,13 @@
 use answers::tell;
 use name_files::TABLE_BYTES;
 use name_files::put_table;
-use names::FILLER;
-use names::Table;
 use refusals::Refusal;
 use refusals::refuse;
 ghost use mathlib.Core.Path.{_≡_};
 ghost use Rattle.answers.specs.Reports.{report};
 ghost use Rattle.host_tables.specs.Calls.{readReport, tableRead, benchNumber, benchBytes};
 
-// Reads a child-name file into a table: 22, 1, 2, 3. A refused file leaves a table of empty clues.
+// The table of a child-name file, written to an output: 22, 1, 2, 3. A refused file gives a table of empty clues.
 pub fn read_names(file: &[u8], table: &mut [u8], answer: &mut [usize]) -> u8
     ensures told { λ n. ⌜ report n (now (answer .exit)) ≡ readReport (now (file .entry)) (now (table .entry)) (now (answer .entry)) ⌝ }
     ensures written { λ n. ⌜ now (table .exit) ≡ tableRead (now (file .entry)) (now (table .entry)) ⌝ }
@@ -19,10 +17,9 @@ pub fn read_names(file: &[u8], table: &mut [u8], answer: &mut [usize]) -> u8
     if table.len() != TABLE_BYTES {
         return tell(refuse(Refusal::BAD_TABLE, 0), 0, answer);
     }
-    let mut rows: Table = [[FILLER; 64]; 64];
-    let verdict = name_files::read_names(file, &mut rows);
+    let rows = name_files::read_names(file);
     put_table(&rows, table);
-    tell(verdict, 0, answer)
+    tell(name_files::check_names(file), 0, answer)
 }
 
 // The bench's own table: 22.

@@ -14,7 +14,7 @@ use lib.Dec.{T, eqb, eqb-refl, T-not, not-T, leb→le, le→leb}
 use Rattle.labelling.specs.Basics.{_∈_, keep, upTo, stands}
 use Rattle.labelling.specs.Limits.{maxName, tableSize, filler}
 use Rattle.labelling.specs.Refusals.{refuse, nameTooHigh, pairAgain}
-use Rattle.labelling.specs.Names.{isName, Pair, pairs, children, pairCheck, pairsCheck, rowOf, tableOf, cluesOf, placeIn}
+use Rattle.labelling.specs.Names.{isName, Pair, pairs, children, pairCheck, pairsCheck, rowOf, tableOf, emptyTable, cluesOf, placeIn}
 use Rattle.labelling.proofs.Tests.{and-iff, is-true, is-false, eqb-alike}
 use Rattle.labelling.proofs.Lists.{here, there, here-or-there, nowhere, member-at, keep-append}
 use Rattle.labelling.proofs.Refusals.{first-none, first-next, first-here, first-passed, last-passed, check-passed, check-failed}
@@ -118,9 +118,9 @@ pub record Reading (file : List ℕ) (t : List (List ℕ)) (i : ℕ) : Type 0 wh
   pub passed : pairsCheck 0 [] (take i (pairs file)) ≡ none
 
 -- at the start no pair was read
-pub read-start : (file : List ℕ) → Reading file (replicate 64 (replicate 64 255)) 0
+pub read-start : (file : List ℕ) {t : List (List ℕ)} → t ≡ emptyTable → Reading file t 0
 unfolding pairsCheck
-read-start file = record { inside = omega arith; built = unfold tableOf upTo rowOf children keep in refl; passed = refl }
+read-start file e = record { inside = omega arith; built = e ∙ unfold emptyTable tableOf upTo rowOf children keep in refl; passed = refl }
 
 module _ (file : List ℕ) {t : List (List ℕ)} {i : ℕ} (r : Reading file t i) (h : i < length file / 2) where
   -- the pair to read

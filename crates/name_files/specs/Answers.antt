@@ -1,24 +1,13 @@
--- What the reader answers and leaves, by the definition of `labelling`.
+-- What putting the pairs of a child-name file into a table answers and leaves.
 use Prim.Native.Nat.{ℕ}
+use mathlib.Core.Path.{_≡_}
 use mathlib.Core.List.{List}
-use Rattle.labelling.specs.Refusals.{refuse}
-use Rattle.labelling.specs.Names.{NamesRead, emptyTable}
+use Rattle.labelling.specs.Names.{pairs, fileCheck, tableOf}
 use Rattle.refusals.specs.declared.Verdict.{Verdict}
+use Rattle.refusals.specs.declared.Verdict.the-variants as verdict
 use Rattle.refusals.specs.Answers.{verdictOf}
 
--- the answer, and the table that it leaves
-pub record Read : Type 0 where
-  pub verdict : Verdict
-  pub table : List (List ℕ)
-
--- as the code has them
-abbrev pub read : Verdict → List (List ℕ) → Read
-read r t = record { verdict = r; table = t }
-
--- as the definition has them
-abbrev pub readOf : NamesRead → Read
-readOf a = record { verdict = verdictOf (a .refusal); table = a .table }
-
--- a refusal, and a table of empty clues
-abbrev pub refusedBy : ℕ → ℕ → Read
-refusedBy number place = record { verdict = verdictOf (refuse number place); table = emptyTable }
+-- the verdict on the file, and the table of its pairs where it passed
+pub record PairsPut (file : List ℕ) (v : Verdict) (t : List (List ℕ)) : Type 0 where
+  pub checked : v ≡ verdictOf (fileCheck file)
+  pub table : v ≡ verdict.Passed → t ≡ tableOf (pairs file)

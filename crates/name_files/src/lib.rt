@@ -1,4 +1,4 @@
-// Child-name files, read into tables; the bench's own table; and tables as bytes.
+// Child-name files, checked and read into tables; the bench's own pairs and table; and tables as bytes.
 use names::FILLER;
 use names::MAX_NAME;
 use names::Place;
@@ -15,9 +15,10 @@ ghost use mathlib.Core.Path.{_≡_};
 ghost use Prim.Native.Nat.{_+_, _*_, _≤_};
 ghost use lib.ListN.{length};
 ghost use Rattle.labelling.specs.Basics.{joined};
-ghost use Rattle.labelling.specs.Names.{readNames};
+ghost use Rattle.labelling.specs.Names.{fileCheck, emptyTable, readNames};
 ghost use Rattle.labelling.specs.Examples.{benchTable};
-ghost use Rattle.name_files.specs.Answers.{read, readOf, refusedBy};
+ghost use Rattle.refusals.specs.Answers.{verdictOf};
+ghost use Rattle.name_files.specs.Answers.{PairsPut};
 ghost use Rattle.name_files.specs.Rows.{rowsIn, tableIn};
 ghost use Rattle.words.specs.Writing.{written};
 
@@ -30,58 +31,66 @@ pub const TABLE_BYTES: usize = 4096;
 // No name has this number, and no table holds it.
 const NO_NAME: u8 = 64;
 
-// The bench's own pairs, parent then child: 0 garage, 1 vehicle, 2 test, 3 axle, 4 curve, 5 note.
-const BENCH_PAIRS: [u8; 14] = [0, 1, 1, 2, 1, 5, 2, 5, 2, 3, 2, 4, 3, 4];
+// The bench's own pairs, parent then child as a child-name file has them: 0 garage, 1 vehicle, 2 test, 3 axle, 4 curve, 5 note.
+pub const BENCH_PAIRS: [u8; 14] = [0, 1, 1, 2, 1, 5, 2, 5, 2, 3, 2, 4, 3, 4];
 
-// A refused file leaves a table of empty clues.
-fn refused(table: &mut Table, number: u8, place: usize) -> Verdict
-    ensures { λ r. ⌜ read r (now (table .exit)) ≡ refusedBy number place ⌝ }
-{
-    *table = [[FILLER; 64]; 64];
-    refuse(number, place)
-}
-
-// Reads a child-name file into a table, 1 to 3; a refused one gives a table of empty clues.
-pub fn read_names(file: &[u8], table: &mut Table) -> Verdict
-    ensures { λ r. ⌜ read r (now (table .exit)) ≡ readOf (readNames (now (file .entry))) ⌝ }
+// Puts the pairs of a child-name file into a table of empty clues: 1 to 3, or all of them stand there.
+fn put_pairs(file: &[u8], table: &mut Table) -> Verdict
+    requires { ⌜ now table ≡ emptyTable ⌝ }
+    ensures { λ r. ⌜ PairsPut (now (file .entry)) r (now (table .exit)) ⌝ }
 {
     if file.len() % 2 != 0 {
-        return refused(table, Refusal::FILE_LENGTH, 0);
+        return refuse(Refusal::FILE_LENGTH, 0);
     }
     if MAX_FILE < file.len() {
-        return refused(table, Refusal::FILE_LENGTH, 0);
+        return refuse(Refusal::FILE_LENGTH, 0);
     }
-    let mut t: Table = [[FILLER; 64]; 64];
     let n = file.len() / 2;
     let mut i: usize = 0;
     while i < n {
         let parent = file[i * 2];
         let child = file[i * 2 + 1];
         if MAX_NAME < parent {
-            return refused(table, Refusal::NAME_TOO_HIGH, i);
+            return refuse(Refusal::NAME_TOO_HIGH, i);
         }
         if MAX_NAME < child {
-            return refused(table, Refusal::NAME_TOO_HIGH, i);
+            return refuse(Refusal::NAME_TOO_HIGH, i);
         }
         let p = parent as usize;
-        let Place::Absent = place_of(&t, p, child) else {
-            return refused(table, Refusal::PAIR_AGAIN, i);
+        let Place::Absent = place_of(table, p, child) else {
+            return refuse(Refusal::PAIR_AGAIN, i);
         };
-        let k = clue_len(&t, p);
-        t[p][k] = child;
+        let k = clue_len(table, p);
+        table[p][k] = child;
         i += 1;
     }
-    *table = t;
     Verdict::Passed
+}
+
+// The check of a child-name file, 1 to 3.
+pub fn check_names(file: &[u8]) -> Verdict
+    ensures { λ r. ⌜ r ≡ verdictOf (fileCheck (now (file .entry))) ⌝ }
+{
+    let mut seen: Table = [[FILLER; 64]; 64];
+    put_pairs(file, &mut seen)
+}
+
+// The table that a child-name file gives; a refused one gives a table of empty clues.
+pub fn read_names(file: &[u8]) -> Table
+    ensures { λ r. ⌜ r ≡ readNames (now (file .entry)) .table ⌝ }
+{
+    let mut table: Table = [[FILLER; 64]; 64];
+    let Verdict::Passed = put_pairs(file, &mut table) else {
+        return [[FILLER; 64]; 64];
+    };
+    table
 }
 
 // The bench's own table, read from its pairs.
 pub fn bench_table() -> Table
     ensures { λ r. ⌜ r ≡ benchTable ⌝ }
 {
-    let mut table: Table = [[FILLER; 64]; 64];
-    read_names(&BENCH_PAIRS, &mut table);
-    table
+    read_names(&BENCH_PAIRS)
 }
 
 // Sixty-four bytes as a row.

@@ -1,7 +1,7 @@
 -- What the program prints: the line of a refusal of one of its files, else what is printed for the words of the store.
 -- Assumes nothing.
 use Prim.Native.Nat.{ℕ, _*_, _/_, _≤_}
-use mathlib.Core.Path.{_≡_, refl, ap, _∙_}
+use mathlib.Core.Path.{_≡_, refl, _∙_}
 use mathlib.Core.List.{List, _∷_}
 use mathlib.Core.Option.{none}
 use native.Mathlib.Omega.{arith}
@@ -11,14 +11,13 @@ use Rattle.labelling.specs.Limits.{recordSize}
 use Rattle.labelling.specs.Names.{tableCheck, fileCheck, readNames}
 use Rattle.storage.specs.Store.{sizeCheck}
 use Rattle.model.specs.Printing.{refusalText, fileWords, storeFileCheck, fileCount, fileElements, fileMatches, printRefusal, printed}
-use Rattle.labelling.proofs.NameFiles.{read-refusal, file-table}
+use Rattle.labelling.proofs.NameFiles.{file-table}
 use Rattle.model.proofs.FileStores.{storeFile-iff, storeFile-sized, length-fileWords}
 use Rattle.refusals.specs.Answers.{verdictOf}
 use Rattle.refusals.specs.declared.Refusal as declared
 use Rattle.refusals.specs.declared.Verdict.{Verdict}
 use Rattle.refusals.specs.declared.Verdict.the-variants as verdict
 use Rattle.refusals.proofs.Verdicts.{passed-none}
-use Rattle.name_files.specs.Answers.{read, readOf}
 use Rattle.printing.specs.Texts.{Prints, told, printedBy, storeMatches, bufferChecks, storeChecks}
 use Rattle.printing.proofs.Rooms.{taken, held}
 use Rattle.printing.proofs.Printed.{prints-as, printed-on, printed-refused}
@@ -41,13 +40,12 @@ module _ (store : List ℕ) where
   words-taken words₀ e = taken (fileWords store) words₀ words-many e
 
 -- files that are accepted have an accepted table and size
-pub files-accepted : (names store words₀ : List ℕ) {v : Verdict} {t : List (List ℕ)} {u : Verdict} {words : List ℕ} → read v t ≡ readOf (readNames names) →
+pub files-accepted : (names store words₀ : List ℕ) {t : List (List ℕ)} {u : Verdict} {words : List ℕ} → t ≡ readNames names .table →
     u ≡ verdictOf (storeFileCheck (length store)) → u ≡ verdict.Passed → words ≡ over (fileWords store) words₀ →
     (tableCheck t ≡ none) × (sizeCheck (length (take (length store / 2) words)) (length store / (2 * recordSize)) ≡ none)
 unfolding fileCount
-files-accepted names store words₀ {t = t} is checked fits written =
-    let table : t ≡ readNames names .table = ap (λ r. r .table) is in
-    (rw table (file-table names), rw (words-taken store words₀ written) (storeFile-sized store (passed-none _ checked fits)))
+files-accepted names store words₀ is checked fits written =
+    (rw is (file-table names), rw (words-taken store words₀ written) (storeFile-sized store (passed-none _ checked fits)))
 
 module _ (names store twig : List ℕ) where
   -- the checks of the files, and those of the store's words and the twig
@@ -57,22 +55,18 @@ module _ (names store twig : List ℕ) where
   unfolding printed printRefusal printedBy storeChecks bufferChecks storeMatches fileMatches fileElements
   printed-is = refl
 
-  module _ {v : Verdict} {t : List (List ℕ)} (is : read v t ≡ readOf (readNames names)) where
-    -- the verdict is that on the child-name file
-    names-verdict : v ≡ verdictOf (fileCheck names)
-    names-verdict = ap (λ r. r .verdict) is ∙ ap verdictOf (read-refusal names)
-
+  module _ {v : Verdict} (is : v ≡ verdictOf (fileCheck names)) where
     -- a child-name file that is refused
     pub names-refused : {x : declared.Refusal} → v ≡ verdict.Refused x → {n : ℕ} {left text : List ℕ} → Prints (refusalText (told x)) n left text →
         Prints (printed names store twig) n left text
-    names-refused e p = prints-as printed-is (printed-refused (fileCheck names) _ _ names-verdict e p)
+    names-refused e p = prints-as printed-is (printed-refused (fileCheck names) _ _ is e p)
 
     module _ (passed : v ≡ verdict.Passed) {u : Verdict} (checked : u ≡ verdictOf (storeFileCheck (length store))) where
       -- then the store's file decides
       file-next : printed names store twig ≡
           printedBy (storeFileCheck (length store) ∷ storeChecks (readNames names .table) (fileWords store) (fileCount store) twig)
           (storeMatches (readNames names .table) (fileWords store) (fileCount store) twig)
-      file-next = printed-is ∙ printed-on (fileCheck names) _ _ (passed-none _ names-verdict passed)
+      file-next = printed-is ∙ printed-on (fileCheck names) _ _ (passed-none _ is passed)
 
       -- a store's file that is refused
       pub file-refused : {x : declared.Refusal} → u ≡ verdict.Refused x → {n : ℕ} {left text : List ℕ} → Prints (refusalText (told x)) n left text →
@@ -80,7 +74,8 @@ module _ (names store twig : List ℕ) where
       file-refused e p = prints-as file-next (printed-refused (storeFileCheck (length store)) _ _ checked e p)
 
       -- one that is not
-      module _ (fits : u ≡ verdict.Passed) (words₀ : List ℕ) {words : List ℕ} (written : words ≡ over (fileWords store) words₀) where
+      module _ (fits : u ≡ verdict.Passed) (words₀ : List ℕ) {words : List ℕ} (written : words ≡ over (fileWords store) words₀)
+          {t : List (List ℕ)} (table : t ≡ readNames names .table) where
         -- what is printed is that of its words
         pub files-printed : {n : ℕ} {left text : List ℕ} →
             Prints (printedBy (storeChecks t (take (length store / 2) words) (length store / (2 * recordSize)) twig)
@@ -88,6 +83,5 @@ module _ (names store twig : List ℕ) where
             Prints (printed names store twig) n left text
         unfolding fileCount
         files-printed p =
-            let table : t ≡ readNames names .table = ap (λ r. r .table) is in
             prints-as (file-next ∙ printed-on (storeFileCheck (length store)) _ _ (passed-none _ checked fits))
             (rw (table, words-taken store words₀ written) at p)

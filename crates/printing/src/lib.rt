@@ -2,8 +2,8 @@
 use cutting::cut;
 use labels::Label;
 use matching::match_twig;
+use name_files::check_names;
 use name_files::read_names;
-use names::FILLER;
 use names::Table;
 use records::Store;
 use refusals::Listing;
@@ -191,8 +191,7 @@ pub fn print_matches(names: &[u8], store: &[u8], twig: &[u8], text: &mut [u8]) -
     requires { ⌜ 180064 ≤ length (now text) ⌝ }
     ensures { λ n. ⌜ (n ≡ length (model.printed (now (names .entry)) (now (store .entry)) (now (twig .entry)))) × (now (text .exit) ≡ over (model.printed (now (names .entry)) (now (store .entry)) (now (twig .entry))) (now (text .entry))) ⌝ }
 {
-    let mut table: Table = [[FILLER; 64]; 64];
-    let checked = read_names(names, &mut table);
+    let checked = check_names(names);
     if let Verdict::Refused(refusal) = checked {
         return print_refusal(refusal, text);
     }
@@ -203,7 +202,7 @@ pub fn print_matches(names: &[u8], store: &[u8], twig: &[u8], text: &mut [u8]) -
     let mut words = [0u16; 32000];
     read_words(store, &mut words);
     print_store(
-        table,
+        read_names(names),
         &words[..store.len() / WORD_BYTES],
         store.len() / (Store::RECORD_WORDS * WORD_BYTES),
         twig,

@@ -1,7 +1,6 @@
 // The tables that stores are made under.
 use name_files::bench_table;
 use name_files::read_names;
-use names::FILLER;
 use names::Table;
 
 // Names below themselves and each other.
@@ -15,13 +14,6 @@ const MANY_BYTES: usize = 512;
 
 // How many tables there are.
 pub const TABLES: usize = 4;
-
-// A table read from pairs.
-fn table_of(pairs: &[u8]) -> Table {
-    let mut t: Table = [[FILLER; 64]; 64];
-    read_names(pairs, &mut t);
-    t
-}
 
 // A byte of a file in which each of sixteen names stands below every one.
 fn many_byte(i: usize) -> u8 {
@@ -39,7 +31,7 @@ fn many() -> Table {
         file[i] = many_byte(i);
         i += 1;
     }
-    table_of(&file)
+    read_names(&file)
 }
 
 // The table of a kind.
@@ -48,10 +40,10 @@ pub fn table(kind: usize) -> Table {
         return bench_table();
     }
     if kind == 1 {
-        return table_of(&NESTED);
+        return read_names(&NESTED);
     }
     if kind == 2 {
-        return table_of(&CHAIN);
+        return read_names(&CHAIN);
     }
     many()
 }

@@ -1,54 +1,15 @@
--- `name_files::read_names` meets its contract: the table has the pairs read so far.
+-- `name_files::read_names` meets its contract: the pairs put into a table of its own, and empty clues for a refused file.
 use borrow.Author.Needs.{needs}
-use mathlib.Core.Path.{_≡_, refl}
-use Prim.Native.Nat.{_/_, _-_}
-use lib.ListN.{length}
-use Rattle.name_files.proofs.Reading.{Reading, read-start}
-use Rattle.name_files.proofs.Answers.{read-odd, read-long, read-whole, high-parent, high-child, again, room-left, more-read}
+use Rattle.name_files.proofs.Answers.{empty-rows, table-read, table-refused}
 use Rattle.name_files.proofs.read_names.Statement.{statement}
 use Rattle.name_files.proofs.read_names.Tie as tie
-
-abbrev Inv-loop : tie.InvT-loop
-Inv-loop file table₀ t₀ n i₀ table t i = (n ≡ length file / 2) × Reading file t i
-
-abbrev μ-loop : tie.MeasureT-loop
-μ-loop file table₀ t₀ n i₀ table t i = n - i
 
 pub read-names-spec : {M : Type 1} → statement M
 read-names-spec =
     tie.close
     (tie.spec
-    Inv-loop
-    μ-loop
-    (λ c κs. search needs)
-    (λ c. search (read-odd, needs))
-    (λ c κs. search needs)
-    (λ c. search (read-long, needs))
-    (λ c. search (read-start, needs))
+    (λ c κs. search (empty-rows, needs))
     (λ c. search needs)
     (λ c. search needs)
-    (λ c. search needs)
-    (λ c. search needs)
-    (λ c. search needs)
-    (λ c κs. search needs)
-    (λ c. search (high-parent, needs))
-    (λ c κs. search needs)
-    (λ c. search (high-child, needs))
-    (λ c. search needs)
-    (λ c κs. search needs)
-    (λ c. search needs)
-    (λ c. search needs)
-    (λ c κs. search needs)
-    (λ c. search (again, needs))
-    (λ c κs. search needs)
-    (λ c. search needs)
-    (λ c. search needs)
-    (λ c. search (room-left, needs))
-    (λ c. search needs)
-    (λ c. search needs)
-    (λ c. (
-      refl,
-      more-read _ (search needs) (search needs) (c .before .before .before .before .before .before .before .before .before .before .before .loop .inv .1) (search needs) (search needs) (search needs)
-          {p = c .before .before .before .before .place-of .result} (search needs) (search needs) (search needs),
-    ))
-    (λ c. search (read-whole, needs)))
+    (λ c. search (table-refused, needs))
+    (λ c. search (table-read, needs)))

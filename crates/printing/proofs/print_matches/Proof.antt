@@ -10,45 +10,38 @@ use Rattle.printing.proofs.print_matches.Tie as tie
 -- a child-name file that is refused
 returns : tie.Need-returns
 returns c =
-    let names = c .before .before .before .before .before .before .before in
-    let p = names-refused _ _ _ (names .read-names .ensures) (c .before .before .before .before .before .checked .given .1) (c .before .before .print-refusal .ensures) in
+    let p = names-refused _ _ _ (c .before .before .before .before .before .before .before .check-names .ensures) (c .before .before .before .before .before .checked .given .1) (c .before .before .print-refusal .ensures) in
     (p .many, p .stand)
 
 -- a store's file that is refused
 returns-2 : tie.Need-returns-2
 returns-2 c =
-    let names = c .before .before .before .before .before .before .before .before .before .before in
+    let names = c .before .before .before .before .before .before .before .before in
     let p =
-    file-refused _ _ _ (names .read-names .ensures) (c .before .before .before .before .before .before .before .before .enum-told .given .1) (c .before .before .before .before .before .before .before .check-file .ensures) (c .before .before .before .before .before .checked2 .given .1)
+    file-refused _ _ _ (names .before .before .check-names .ensures) (names .enum-told .given .1) (c .before .before .before .before .before .before .before .check-file .ensures) (c .before .before .before .before .before .checked2 .given .1)
     (c .before .before .print-refusal2 .ensures) in
     (p .many, p .stand)
-
--- its words have room
-read-words-requires : tie.Need-read-words-requires
-read-words-requires c κs = file-room _ (c .before .before .before .check-file .ensures) (c .before .enum-told2 .given .1)
-
-array-share-prefix-words : tie.Need-array-share-prefix-words
-array-share-prefix-words c = words-held _ _ (c .before .read-words .ensures)
-
-slice-aggregate-print-store : tie.Need-slice-aggregate-print-store
-slice-aggregate-print-store c = sym (length-take-le _ _ (words-held _ _ (c .before .before .read-words .ensures)))
 
 -- table and size are accepted
 print-store-requires : tie.Need-print-store-requires
 print-store-requires c κs =
-    let names = c .before .before .before .before .before .before .before .before .before .before in
-    let (table, size) =
-    files-accepted _ _ _ (names .read-names .ensures) (c .before .before .before .before .before .before .before .check-file .ensures) (c .before .before .before .before .before .enum-told2 .given .1)
-    (c .before .before .before .read-words .ensures) in
-    (table, size, names .before .before .before .before .before .before .pre)
+    let read = c .before .before in
+    let words = read .before .before in
+    let told = words .before .before in
+    let file = told .before .before in
+    let (table, size) = files-accepted _ _ _ (read .read-names .ensures) (file .check-file .ensures) (told .enum-told2 .given .1) (words .read-words .ensures) in
+    (table, size, file .before .before .before .before .before .before .before .before .pre)
 
 -- and what is printed is the whole
 returns-3 : tie.Need-returns-3
 returns-3 c =
-    let names = c .before .before .before .before .before .before .before .before .before .before .before .before .before in
+    let read = c .before .before .before .before .before in
+    let words = read .before .before in
+    let told = words .before .before in
+    let file = told .before .before in
     let p =
-    files-printed _ _ _ (names .read-names .ensures) (c .before .before .before .before .before .before .before .before .before .before .before .enum-told .given .1) (c .before .before .before .before .before .before .before .before .before .before .check-file .ensures) (c .before .before .before .before .before .before .before .before .enum-told2 .given .1) _
-    (c .before .before .before .before .before .before .read-words .ensures) (c .before .before .print-store .ensures) in
+    files-printed _ _ _ (file .before .before .before .check-names .ensures) (file .before .enum-told .given .1) (file .check-file .ensures) (told .enum-told2 .given .1) _ (words .read-words .ensures)
+    (read .read-names .ensures) (c .before .before .print-store .ensures) in
     (p .many, p .stand)
 
 pub print-matches-spec : {M : Type 1} → statement M
@@ -68,9 +61,10 @@ print-matches-spec =
     returns-2
     (λ c. search needs)
     (λ c. search needs)
-    read-words-requires
-    array-share-prefix-words
-    slice-aggregate-print-store
+    (λ c κs. search (file-room, needs))
+    (λ c κs. search needs)
+    (λ c. search (words-held, needs))
+    (λ c. sym (length-take-le _ _ (search (words-held, needs))))
     (λ c. search needs)
     (λ c. search needs)
     print-store-requires
