@@ -3,6 +3,7 @@ use crate::made::put_record;
 use crate::made::put_word;
 use crate::show::print;
 use crate::show::say;
+use name_files::BENCH_PAIRS;
 
 // The bench's names.
 pub const GARAGE: u16 = 0;
@@ -17,8 +18,8 @@ pub const CURVE: u16 = 4;
 
 pub const NOTE: u16 = 5;
 
-// names.tab.
-pub const NAMES: [u8; 14] = [0, 1, 1, 2, 1, 5, 2, 5, 2, 3, 2, 4, 3, 4];
+// names.tab: the bench's own pairs.
+pub const NAMES: [u8; 14] = BENCH_PAIRS;
 
 // The bytes of store.rec, eight records.
 pub const STORE_BYTES: usize = 320;
