@@ -16,8 +16,8 @@
  *
  * What is written. The small answers `answer`, `label` and `names` are written from their start as far as there
  * is room and untouched past that: an `answer` of length 0 gets nothing, a longer one than 2 keeps its rest. The
- * lent buffers `table`, `store` and `out` are left as they were by every refusal, with one exception: a refused
- * child-name file leaves a table of empty clues. An output is untouched past its result.
+ * `table` of jiszteruk_read_names is an answer too: a refused child-name file gives a table of empty clues. The
+ * lent buffers `store` and `out` are left as they were by every refusal. An output is untouched past its result.
  *
  * A name is a number 0 to 63. A table is 4,096 bytes: sixty-four rows of sixty-four name numbers, row after row,
  * each filled up with 255; row p has the clue of name p, the names of its children in order. A table of another
@@ -111,10 +111,10 @@ extern "C" {
 
 /* ---- Names and what may stand below them */
 
-/* Reads a child-name file, pairs of bytes, parent then child, into a table. The children of a name, in file
- * order, are its clue. An empty file is good: every clue is empty.
- * Refusals: 22 where `table` is not 4,096 bytes, and then it is untouched; 1; then pair by pair 2, 3. By 1 to 3
- * the table gets empty clues, all 255. */
+/* Reads a child-name file, pairs of bytes, parent then child: `table`, an output, gets its table. The children of
+ * a name, in file order, are its clue. An empty file is good: every clue is empty. A file refused by 1 to 3 gives
+ * a table of empty clues, sixty-four rows of 255.
+ * Refusals: 22 where `table` is not 4,096 bytes, and then it is untouched; 1; then pair by pair 2, 3. */
 uint8_t jiszteruk_read_names(const uint8_t *file, size_t file_len,
                              uint8_t *table, size_t table_len,
                              size_t *answer, size_t answer_len);

@@ -133,8 +133,9 @@ extern "C" {
     ) -> u8;
 }
 
-/// Reads a child-name file into a table of 4,096 bytes: 22 for a table of another length, then 1 to
-/// 3. A file refused by these leaves a table of empty clues.
+/// Reads a child-name file: the output `table` gets its table. 22 for an output that has not 4,096
+/// bytes, and then it is untouched; then 1 to 3. A file refused by these gives a table of empty
+/// clues, sixty-four rows of 255.
 pub fn read_names(file: &[u8], table: &mut [u8], answer: &mut [usize]) -> u8 {
     // SAFETY: pointers and lengths are those of slices.
     unsafe {

@@ -36,8 +36,8 @@ impl Table {
         bytes: [Self::FILLING; Self::BYTES],
     };
 
-    /// Reads a child-name file: pairs of bytes, parent then child. Refused 1, 2, 3. The empty file
-    /// gives a table of empty clues.
+    /// Reads a child-name file: pairs of bytes, parent then child. Refused 1, 2, 3, and then there is
+    /// no table. The empty file gives a table of empty clues.
     pub fn read(file: &[u8]) -> Result<Table, Refusal> {
         let mut table = Self::EMPTY;
         ask(|answer| ffi::read_names(file, &mut table.bytes, answer))?;
