@@ -16,13 +16,12 @@ use Rattle.storage.specs.Updates.{given, raised, placed, entered}
 use Rattle.labelling.proofs.Lists.{for-map}
 use Rattle.storage.proofs.Sizes.{length-elements-read}
 use Rattle.storage.proofs.Words.{length-elementWords}
-use Rattle.storage.proofs.SoundStore.{sound-fit}
 use Rattle.moving.specs.Moves.{inserted}
 use Rattle.lookup.specs.Places.{placeAt, passes, leading}
 use Rattle.lookup.proofs.Places.{searchable, placed-leading}
 use Rattle.store.proofs.Splices.{words-splice}
 use Rattle.store.proofs.Raises.{leading-raised, words-raised}
-use Rattle.store.proofs.InUse.{records-behind, subtree-end, sound-words, place-used, parent-label}
+use Rattle.store.proofs.InUse.{records-behind, subtree-end, sound-fit, sound-words, place-used, parent-label}
 
 -- the records in use with one put in, written over the slice
 insert-over : (ws out rec : List ℕ) (b count : ℕ) → b ≤ count → recordSize * (count + 1) ≤ length ws → length rec ≡ recordSize →

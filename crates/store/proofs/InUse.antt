@@ -19,6 +19,7 @@ use Rattle.records.specs.Records.{recordAt}
 use Rattle.records.proofs.Elements.{element-at}
 use Rattle.lookup.specs.Places.{placeAt, passes, leading, Searchable}
 use Rattle.lookup.proofs.Places.{leading-most, place-inside, find-place}
+pub use Rattle.storage.proofs.SoundStore.{sound-fit}
 
 -- the records in use behind place b
 pub records-behind : (ws : List ℕ) (b count : ℕ) → b ≤ count → recordSize * count ≤ length ws →
