@@ -1,10 +1,9 @@
 -- What is told of a table that is read or written, and what is left in it.
 -- Assumes nothing.
 use Prim.Native.Nat.{ℕ, _*_}
-use mathlib.Core.Path.{_≡_, refl, sym, ap, _∙_}
+use mathlib.Core.Path.{_≡_, sym, ap, _∙_}
 use mathlib.Core.Bool.{cond}
 use mathlib.Core.List.{List}
-use lib.Dec.{eqb}
 use lib.ListN.{length}
 use Rattle.labelling.specs.Basics.{joined}
 use Rattle.labelling.specs.Limits.{tableSize}
