@@ -46,24 +46,24 @@ module _ (l : List ℕ) where
 
   module _ (depth : ℕ) where
     -- none was read
-    pub all-start : true ≡ wordsFit l 0 depth 0 0
-    all-start = words-start l 0 depth 0
+    pub all-start : true ≡ wordsFit (wordFits depth) l 0 0
+    all-start = words-start (wordFits depth) l 0
 
     -- one more
-    pub all-on : (any n : ℕ) → eqb any 0 ≡ wordsFit l 0 depth 0 n → (m : ℕ) → eqb m 0 ≡ wordFits depth n (getD l n 0) → eqb (bitOr any m) 0 ≡ wordsFit l 0 depth 0 (n + 1)
-    all-on any n inv m is = words-on l 0 depth 0 any n inv m (rw (zero-add, zero-add) is)
+    pub all-on : (any n : ℕ) → eqb any 0 ≡ wordsFit (wordFits depth) l 0 n → (m : ℕ) → eqb m 0 ≡ wordFits depth n (getD l n 0) → eqb (bitOr any m) 0 ≡ wordsFit (wordFits depth) l 0 (n + 1)
+    all-on any n inv m is = words-on (wordFits depth) l 0 any n inv m (rw zero-add is)
 
   module _ (sixteen : length l ≡ labelSize) {depth : ℕ} (told : depth ≡ min (getD l 0 0) maxDepth) (any n : ℕ)
-      (inv : eqb any 0 ≡ wordsFit l 0 depth 0 n) (low : n ≤ labelSize) (high : labelSize ≤ n) where
+      (inv : eqb any 0 ≡ wordsFit (wordFits depth) l 0 n) (low : n ≤ labelSize) (high : labelSize ≤ n) where
     -- all are told
-    all-fit : eqb any 0 ≡ wordsFit l 0 depth 0 labelSize
-    all-fit = words-end l 0 depth 0 any n inv labelSize low high
+    all-fit : eqb any 0 ≡ wordsFit (wordFits depth) l 0 labelSize
+    all-fit = words-end (wordFits depth) l 0 any n inv labelSize low high
 
     -- those of a label fit
     fit-all : T (isLabel l) → eqb any 0 ≡ true
     fit-all t =
         let whole : depth ≡ getD l 0 0 = omega (arith, isLabel-iff l .0 t .depth) in
-        all-fit ∙ words-all l 0 depth 0 labelSize (λ i least most. rw (whole, zero-add i) (label-fits t i (omega arith)))
+        all-fit ∙ words-all (wordFits depth) l 0 labelSize (λ i low. rw (whole, zero-add i) (label-fits t i low))
 
     -- some do not: they are no label
     pub all-misfit : (any ≡ 0 → ⊥) → eqb any 0 ≡ isLabel l
@@ -78,4 +78,4 @@ module _ (l : List ℕ) where
         eq-eqb (getD l 0 0) depth (sym whole) ∙ sym (is-true _ (fits-label sixteen (omega arith) (λ i k.
         subst (λ d. wordFits d i (getD l i 0) ≡ true) whole
         (subst (λ j. wordFits depth i (getD l j 0) ≡ true) (zero-add i)
-        (words-each l 0 depth 0 labelSize (sym all-fit ∙ eq-eqb any 0 e) i (omega arith) (omega arith)))))))
+        (words-each (wordFits depth) l 0 labelSize (sym all-fit ∙ eq-eqb any 0 e) i k))))))

@@ -9,14 +9,14 @@ use lib.Seq.{getD-take, length-take-le}
 use mathlib.Core.Logic.{by-cases}
 use native.Mathlib.Decide.{decLt}
 use lib.Dec.{T, eqb, leb, ltb, leb→le}
-use borrow.Author.Tests.{eq-eqb, ne-eqb, le-leb, lt-leb, not-true, not-false}
-use Rattle.labelling.specs.Limits.{maxDepth, labelSize, recordSize}
+use borrow.Author.Tests.{eq-eqb, ne-eqb, le-leb, lt-leb, leb-true, not-true, not-false}
+use Rattle.labelling.specs.Limits.{maxComponent, maxDepth, labelSize, recordSize}
 use Rattle.storage.specs.Store.{laidOut}
 use Rattle.labelling.proofs.Tests.{is-true, is-false, and-iff}
 use Rattle.records.specs.Records.{recordAt}
 use Rattle.records.proofs.Parts.{record-word, record-depth}
-use Rattle.layouts.specs.Words.{wordFits, wordsFit}
-use Rattle.layouts.proofs.Words.{words-each, words-all}
+use Rattle.layouts.specs.Words.{wordFits, restFits, wordsFit}
+use Rattle.layouts.proofs.Words.{word-used, rest-of, fit-of-rest, words-each, words-all}
 use Rattle.layouts.proofs.Fits.{fits-label, label-fits}
 use Rattle.soundness.specs.Rules.{Laid, depthFits}
 
@@ -56,14 +56,12 @@ pub record Fitting (ws : List ℕ) (r w : ℕ) : Type 0 where
   pub fit : (i : ℕ) → i < w → wordFits (getD ws (r * recordSize) 0) i (getD ws (r * recordSize + i) 0) ≡ true
 
 module _ (ws : List ℕ) (r : ℕ) where
-  -- no word was read
-  pub fit-start : Fitting ws r 0
-  fit-start = record { fit = λ i h. absurd (omega arith) }
-
-  -- n more words fit
-  pub fit-on : {w : ℕ} (n : ℕ) {b : Bool} → Fitting ws r w → b ≡ wordsFit ws (r * recordSize) (getD ws (r * recordSize) 0) w n → not b ≡ false → Fitting ws r (w + n)
-  fit-on {w} n {b} f is e = record {
-    fit = λ i h. by-cases (decLt i w) (f .fit i) (λ l. words-each ws _ _ w n (sym is ∙ not-false b e) i (omega arith) h);
+  -- one more used component fits
+  pub fit-on : (w : ℕ) → Fitting ws r w → w ≤ getD ws (r * recordSize) 0 → getD ws (r * recordSize + w) 0 ≤ maxComponent → Fitting ws r (w + 1)
+  fit-on w f used small = record {
+    fit = λ i h. by-cases (decLt i w) (f .fit i) (λ l.
+        let here : i ≡ w = omega arith in
+        rw here (sym (word-used _ w _ used) ∙ le-leb _ maxComponent small));
   }
 
   module _ (room : r * recordSize + recordSize ≤ length ws) where
@@ -90,18 +88,33 @@ module _ (ws : List ℕ) (r : ℕ) where
     same-fit : (i : ℕ) → i < labelSize → wordFits (getD ws (r * recordSize) 0) i (getD ws (r * recordSize + i) 0) ≡ wordFits (getD label 0 0) i (getD label i 0)
     same-fit i h = sym (ap₂ (λ d x. wordFits d i x) label-depth (label-word i h))
 
-    -- all words fit: the record is laid out as it must be
-    fit-end : {w : ℕ} → Fitting ws r w → labelSize ≤ w → getD ws (r * recordSize) 0 ≤ maxDepth → laidOut (recordAt r ws) ≡ true
+    -- every word of a record that is laid out as it must be fits its depth
+    laid-fits : T (laidOut (recordAt r ws)) → (i : ℕ) → i < labelSize → wordFits (getD ws (r * recordSize) 0) i (getD ws (r * recordSize + i) 0) ≡ true
     unfolding laidOut label
-    fit-end {w} f high deep = is-true _ (fits-label label label-words (omega (arith, label-depth)) (λ i h. sym (same-fit i h) ∙ f .fit i (omega arith)))
+    laid-fits t i h = same-fit i h ∙ label-fits label t i h
 
-    -- some do not: it is not
-    pub fit-bad : (w n : ℕ) {b : Bool} → w + n ≤ labelSize → b ≡ wordsFit ws (r * recordSize) (getD ws (r * recordSize) 0) w n → not b ≡ true →
-        laidOut (recordAt r ws) ≡ false
-    unfolding laidOut label
-    fit-bad w n {b} high is e = is-false _ (λ t. subst T (sym is ∙ not-true b e)
-        (subst T (sym (words-all ws _ _ w n (λ i low h. same-fit i (omega arith) ∙ label-fits label t i (omega arith)))) tt))
+    -- a used component of such a record is at most 65,534
+    pub laid-small : laidOut (recordAt r ws) ≡ true → (i : ℕ) → i ≤ getD ws (r * recordSize) 0 → getD ws (r * recordSize) 0 ≤ maxDepth →
+        getD ws (r * recordSize + i) 0 ≤ maxComponent
+    laid-small e i used deep = leb-true _ maxComponent (word-used _ i _ used ∙ laid-fits (subst T (sym e) tt) i (omega arith))
 
-    -- the record is laid out, and has a depth that fits it
-    pub fit-laid : {w : ℕ} → Fitting ws r w → labelSize ≤ w → depthFits r (getD ws (r * recordSize) 0) ≡ true → Laid ws r
-    fit-laid {w} f high fits = (fits, fit-end f high (fitting-depth r _ fits))
+    module _ {b : Bool} (is : b ≡ wordsFit (restFits (getD ws (r * recordSize) 0)) ws (r * recordSize) labelSize) where
+      -- an unused one that is not 0 breaks it
+      pub fit-rest : not b ≡ true → laidOut (recordAt r ws) ≡ false
+      fit-rest e = is-false _ (λ t. subst T (sym is ∙ not-true b e)
+          (subst T (sym (words-all _ ws _ labelSize (λ i h. rest-of _ i _ (laid-fits t i h)))) tt))
+
+      -- otherwise the record is laid out, and has a depth that fits it
+      pub fit-laid : not b ≡ false → {w : ℕ} → Fitting ws r w → getD ws (r * recordSize) 0 < w → depthFits r (getD ws (r * recordSize) 0) ≡ true → Laid ws r
+      unfolding laidOut label
+      fit-laid e {w} f high fits =
+          let deep = fitting-depth r _ fits in (
+            fits,
+            is-true _ (fits-label label label-words (omega (arith, label-depth)) (λ i h. sym (same-fit i h) ∙ by-cases (decLt i w) (f .fit i)
+                (λ l. fit-of-rest _ i _ (omega arith) (words-each _ ws _ labelSize (sym is ∙ not-false b e) i h)))),
+          )
+
+  -- a used component that is larger than 65,534 breaks the layout
+  pub fit-over : (count w : ℕ) → r < count → count * recordSize ≤ length ws → w ≤ getD ws (r * recordSize) 0 → getD ws (r * recordSize) 0 ≤ maxDepth →
+      maxComponent < getD ws (r * recordSize + w) 0 → laidOut (recordAt r ws) ≡ false
+  fit-over count w h room used deep over = is-false _ (λ t. absurd (omega (arith, laid-small (omega arith) (is-true _ t) w used deep)))

@@ -1,4 +1,5 @@
 pub mod Fits
+pub mod Shared
 pub mod Trail
 pub mod Pass
 pub mod Rules

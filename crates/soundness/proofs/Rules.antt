@@ -104,13 +104,17 @@ module _ (cl : Clues) (ws : List ℕ) where
     unfolding brokenRoot isName model.test
     root-kept e = rw (← root-closed, not-false b e, root-word, le-leb (getD ws nameWord 0) maxName low)
 
+-- two labels that are lent share what the labels that they are share
+pub shared-lent : (l m p q : Label) {s : ℕ} → s ≡ shared p q → l ≡ p → m ≡ q → s ≡ shared l m
+shared-lent l m p q is e f = is ∙ ap₂ shared (sym e) (sym f)
+
 -- labels share at most fifteen components
-pub shared-few : (l m : Label) {s d : ℕ} → s ≡ shared l m → length l ≡ d → d ≤ maxDepth → s + 1 < 17
-shared-few l m is long low = omega (arith, shared-low l m)
+pub shared-few : (l p q : Label) {s d : ℕ} → s ≡ shared p q → l ≡ p → length l ≡ d → d ≤ maxDepth → s + 1 < 17
+shared-few l p q is e long low = omega (arith, shared-low p q, ap length e)
 
 -- the rules of a record behind another, below the record with the number `parent`
 module _ (cl : Clues) (ws : List ℕ) (r parent : ℕ) {l m : Label} (p : l ≡ labelOf (recordAt r ws)) (q : m ≡ labelOf (recordAt (r + 1) ws)) {s : ℕ}
-    (is : s ≡ shared l m) where
+    (is : s ≡ shared (labelOf (recordAt r ws)) (labelOf (recordAt (r + 1) ws))) where
   -- what they say
   abbrev answer : Check
   answer = checkOf (brokenBelow cl (model.readElement (recordAt r ws)) (model.readElement (recordAt parent ws)) (model.readElement (recordAt (r + 1) ws)))
@@ -125,7 +129,7 @@ module _ (cl : Clues) (ws : List ℕ) (r parent : ℕ) {l m : Label} (p : l ≡ 
       -- a parent that does not stand earlier
       pub below-parent : (s + 1 ≡ length m → ⊥) → check.Broken rule.Parent ≡ answer
       unfolding brokenBelow model.readElement model.test
-      below-parent e = rw (← p, ← q, ← order, not-false b ascends, ← is, ne-eqb _ _ e)
+      below-parent e = rw (← p, ← q, ← order, not-false b ascends, ← shared-lent l m _ _ is p q, ne-eqb _ _ e)
 
       module _ (stands : s + 1 ≡ length m) {k : Bool}
           (led : k ≡ model.leads (cl (getD ws (parent * recordSize + nameWord) 0)) (getD m s 0) (getD ws ((r + 1) * recordSize + nameWord) 0)) where
@@ -141,7 +145,7 @@ module _ (cl : Clues) (ws : List ℕ) (r parent : ℕ) {l m : Label} (p : l ≡ 
         -- another name
         pub below-name : not k ≡ true → check.Broken rule.Name ≡ answer
         unfolding brokenBelow model.readElement model.test
-        below-name e = rw (← p, ← q, ← order, not-false b ascends, ← is, eq-eqb _ _ stands, ← led-is, not-true k e)
+        below-name e = rw (← p, ← q, ← order, not-false b ascends, ← shared-lent l m _ _ is p q, eq-eqb _ _ stands, ← led-is, not-true k e)
 
         module _ (named : not k ≡ false) where
           -- a last component that is not below the parent's next number
@@ -150,7 +154,7 @@ module _ (cl : Clues) (ws : List ℕ) (r parent : ℕ) {l m : Label} (p : l ≡ 
           below-last h =
               let over : ltb (last m) (getD (recordAt parent ws) nextWord 0) ≡ false =
               ap₂ ltb (sym last-is) (record-word ws parent nextWord (omega arith)) ∙ le-ltb _ _ h in
-              rw (← p, ← q, ← order, not-false b ascends, ← is, eq-eqb _ _ stands, ← led-is, not-false k named, over)
+              rw (← p, ← q, ← order, not-false b ascends, ← shared-lent l m _ _ is p q, eq-eqb _ _ stands, ← led-is, not-false k named, over)
 
           module _ (h : getD m s 0 < getD ws (parent * recordSize + nextWord) 0) {n : ℕ} (size : n ≡ length (cl (getD ws ((r + 1) * recordSize + nameWord) 0)))
               {f : Bool} (shut : f ≡ closedBy n (s + 1) (getD ws ((r + 1) * recordSize + nextWord) 0)) where
@@ -166,9 +170,9 @@ module _ (cl : Clues) (ws : List ℕ) (r parent : ℕ) {l m : Label} (p : l ≡ 
             -- it is broken
             pub below-next : not f ≡ true → check.Broken rule.Next ≡ answer
             unfolding brokenBelow model.readElement model.test
-            below-next e = rw (← shut-is, ← p, ← q, ← order, not-false b ascends, ← is, eq-eqb _ _ stands, ← led-is, not-false k named, under, not-true f e)
+            below-next e = rw (← shut-is, ← p, ← q, ← order, not-false b ascends, ← shared-lent l m _ _ is p q, eq-eqb _ _ stands, ← led-is, not-false k named, under, not-true f e)
 
             -- it is kept
             pub below-kept : not f ≡ false → check.Kept ≡ answer
             unfolding brokenBelow model.readElement model.test
-            below-kept e = rw (← shut-is, ← p, ← q, ← order, not-false b ascends, ← is, eq-eqb _ _ stands, ← led-is, not-false k named, under, not-false f e)
+            below-kept e = rw (← shut-is, ← p, ← q, ← order, not-false b ascends, ← shared-lent l m _ _ is p q, eq-eqb _ _ stands, ← led-is, not-false k named, under, not-false f e)

@@ -20,14 +20,15 @@ use Rattle.labelling.proofs.Tests.{and-iff, is-true}
 use Rattle.storage.proofs.Relaid.{laid-depth}
 use Rattle.records.specs.Records.{recordAt}
 use Rattle.records.proofs.Parts.{record-depth}
-use Rattle.soundness.specs.Rules.{Laid, Ready, depthFits, brokenAt}
+use Rattle.soundness.specs.Rules.{Laid, Ready, depthFits, sharedBefore, brokenAt}
 use Rattle.soundness.specs.Answers.{ruleOf, checkOf, soundnessOf}
 use Rattle.soundness.specs.declared.Rule.{Rule}
 use Rattle.soundness.specs.declared.Rule.the-variants as rule
 use Rattle.soundness.specs.declared.Check.{Check}
 use Rattle.soundness.specs.declared.Check.the-variants as check
 use Rattle.soundness.specs.declared.Soundness.the-variants as soundness
-use Rattle.soundness.proofs.Fits.{fitting-depth, depth-root, depth-below}
+use Rattle.soundness.proofs.Fits.{Fitting, fitting-depth, depth-root, depth-below}
+use Rattle.soundness.proofs.Shared.{shares-fit}
 use Rattle.soundness.proofs.Trail.{behind, Trail}
 use Rattle.soundness.proofs.Pass.{broken-is, trail-on}
 
@@ -35,7 +36,7 @@ use Rattle.soundness.proofs.Pass.{broken-is, trail-on}
 pub record Scanned (cl : Clues) (count : ℕ) (ws parents : List ℕ) (r : ℕ) : Type 0 where
   pub sized : length parents ≡ 17
   pub earlier : (j : ℕ) → getD parents j 0 ≤ r
-  pub shallow : (q : ℕ) → q < r → getD ws (q * recordSize) 0 ≤ maxDepth
+  pub tidy : (q : ℕ) → q < r → Laid ws q
   pub trail : Trail ws r parents
   pub rest : model.fault cl [] (model.records count ws) ≡ model.fault cl (behind r ws) (model.records (count - r) (drop (r * recordSize) ws))
 
@@ -61,7 +62,7 @@ scan-start cl count ws =
     record {
       sized = refl;
       earlier = zeros 17;
-      shallow = λ q h. absurd (omega arith);
+      tidy = λ q h. absurd (omega arith);
       trail = tt;
       rest = rw all refl;
     }
@@ -121,6 +122,10 @@ module _ (cl : Clues) (count : ℕ) (ws parents : List ℕ) (r : ℕ) (scanned :
         let on : r * recordSize + recordSize ≡ (r + 1) * recordSize = omega arith in
         scanned .rest ∙ rw (more, drop-drop recordSize (r * recordSize) ws, on, length-behind r ws)
 
+    -- the previous record has a label; record 0 is counted as its own previous one
+    pub scan-previous : getD ws (r * recordSize) 0 ≤ maxDepth → getD ws ((r - 1) * recordSize) 0 ≤ maxDepth
+    scan-previous deep = by-cases (decLt 0 r) (λ h. fitting-depth _ _ (scanned .tidy (r - 1) (omega arith) .0)) (λ h. let here : r - 1 ≡ r = omega arith in rw here deep)
+
     -- a rule that record r breaks
     breaks : (x : model.Rule) → model.broken cl (behind r ws) (recordAt r ws) ≡ some x →
         soundness.Broken (ruleOf x) r ≡ soundnessOf (model.fault cl [] (model.records count ws))
@@ -136,9 +141,13 @@ module _ (cl : Clues) (count : ℕ) (ws parents : List ℕ) (r : ℕ) (scanned :
     pub scan-word : model.laidOut (recordAt r ws) ≡ false → soundness.Broken rule.Layout r ≡ soundnessOf (model.fault cl [] (model.records count ws))
     scan-word e = breaks model.layoutRule (layout-broken cl ws r (λ l. subst T e (subst T (sym (l .1)) tt)))
 
+    -- the components that it shares with the previous record fit
+    pub scan-shared : count * recordSize ≤ length ws → getD ws (r * recordSize) 0 ≤ maxDepth → {s : ℕ} → s ≡ sharedBefore ws r → Fitting ws r (s + 1)
+    scan-shared room deep is = shares-fit ws r is (scanned .tidy) deep (omega arith)
+
     -- it can be tested behind its layout
     pub scan-ready : count * recordSize ≤ length ws → Laid ws r → Ready ws r (getD parents (getD ws (r * recordSize) 0) 0)
-    scan-ready room laid = record { room = omega arith; laid = laid; earlier = scanned .earlier _; shallow = scanned .shallow }
+    scan-ready room laid = record { room = omega arith; laid = laid; earlier = scanned .earlier _; shallow = λ q h. fitting-depth q _ (scanned .tidy q h .0) }
 
     module _ (room : count * recordSize ≤ length ws) (laid : Laid ws r) {k : Check}
         (is : k ≡ checkOf (brokenAt cl ws r (getD parents (getD ws (r * recordSize) 0) 0))) where
@@ -161,7 +170,7 @@ module _ (cl : Clues) (count : ℕ) (ws parents : List ℕ) (r : ℕ) (scanned :
           record {
             sized = length-set parents _ r ∙ scanned .sized;
             earlier = set-under parents _ r (r + 1) (λ j. omega (arith, scanned .earlier j)) (omega arith);
-            shallow = λ q a. by-cases (decLt q r) (scanned .shallow q) (λ n. let at : q ≡ r = omega arith in rw at (fitting-depth r _ (laid .0)));
+            tidy = λ q a. by-cases (decLt q r) (scanned .tidy q) (λ n. let at : q ≡ r = omega arith in rw at laid);
             trail = rw add-one (trail-on cl ws parents r (scanned .trail) inside laid (scanned .sized) kept);
             rest = next ∙ rw (none-broken, add-one);
           }

@@ -10,7 +10,7 @@ use Rattle.labelling.specs.Basics.{last}
 use Rattle.labelling.specs.Limits.{maxDepth, recordSize}
 use Rattle.labelling.specs.Refusals.{Refusal, first}
 use Rattle.labelling.specs.Names.{Clues, isName, cluesOf, tableCheck}
-use Rattle.labelling.specs.Labels.{before, shared}
+use Rattle.labelling.specs.Labels.{labelOf, before, shared}
 use Rattle.storage.specs.Store.{Element, Rule, readElement, test, laidOut, leads, closed, sizeCheck, soundCheck, orderRule, parentRule, nameRule, lastRule, nextRule}
 use Rattle.records.specs.Records.{recordAt}
 
@@ -38,6 +38,11 @@ brokenBelow cl previous parent e =
 unfoldable pub brokenAt : Clues → List ℕ → ℕ → ℕ → Option Rule
 brokenAt cl ws zero parent = brokenRoot cl (readElement (recordAt zero ws))
 brokenAt cl ws (suc r) parent = brokenBelow cl (readElement (recordAt r ws)) (readElement (recordAt parent ws)) (readElement (recordAt (suc r) ws))
+
+-- how many components record r of a slice shares with the previous one: none for record 0
+unfoldable pub sharedBefore : List ℕ → ℕ → ℕ
+sharedBefore ws zero = 0
+sharedBefore ws (suc r) = shared (labelOf (recordAt r ws)) (labelOf (recordAt (suc r) ws))
 
 -- the checks of table, sizes and records, 22, 18, 19, in this order
 unfoldable pub storeCheck : List (List ℕ) → List ℕ → ℕ → Option Refusal

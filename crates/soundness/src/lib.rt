@@ -4,9 +4,8 @@ use clue_lengths::clue_lens;
 use clue_lengths::lens_slice;
 use label_order::ordered;
 use labels::Label;
-use layouts::HALF;
-use layouts::LARGEST;
-use layouts::half_fits;
+use layouts::UNUSED;
+use layouts::rest_zero;
 use layouts::shared_part;
 use names::Child;
 use names::MAX_NAME;
@@ -20,14 +19,15 @@ use refusals::refuse;
 use table_checks::table_check;
 ghost use mathlib.Core.Path.{_≡_};
 ghost use mathlib.Core.List.{[]};
-ghost use Prim.Native.Nat.{_+_, _*_, _<_, _≤_};
+ghost use Prim.Native.Nat.{_+_, _-_, _*_, _≤_};
 ghost use lib.ListN.{length, getD};
 ghost use Rattle.labelling.specs.Names.{cluesOf};
+ghost use Rattle.labelling.specs.Labels.{labelOf, shared};
 ghost use Rattle.storage.specs.Store as model;
 ghost use Rattle.clue_lengths.specs.Lens.{lensOf};
 ghost use Rattle.refusals.specs.Answers.{verdictOf};
 ghost use Rattle.records.specs.Records.{recordAt};
-ghost use Rattle.soundness.specs.Rules.{Ready, closedBy, depthFits, brokenRoot, brokenBelow, brokenAt, storeCheck};
+ghost use Rattle.soundness.specs.Rules.{Ready, sharedBefore, closedBy, depthFits, brokenRoot, brokenBelow, brokenAt, storeCheck};
 ghost use Rattle.soundness.specs.Answers.{Numbered, checkOf, soundnessOf};
 
 // The rules of a sound record, in order.
@@ -118,14 +118,20 @@ fn root_rules(table: &Table, lens: &[usize], store: &[u16]) -> Check
     Check::Kept
 }
 
-// The rules of a later record behind its layout, where it stands below the record with the number `parent`.
-fn child_rules(table: &Table, lens: &[usize], store: &[u16], r: usize, parent: usize) -> Check
-    requires { ⌜ (now lens ≡ lensOf (now table)) × (r * 20 + 40 ≤ length (now store)) × (parent * 20 + 20 ≤ length (now store)) × (getD (now store) (r * 20) 0 ≤ 15) × (getD (now store) ((r + 1) * 20) 0 ≤ 15) ⌝ }
+// The rules of the record behind record r, behind its layout, where it shares s components with that one and stands below the record with the number `parent`.
+fn child_rules(
+    table: &Table,
+    lens: &[usize],
+    store: &[u16],
+    r: usize,
+    s: usize,
+    parent: usize,
+) -> Check
+    requires { ⌜ (now lens ≡ lensOf (now table)) × (s ≡ shared (labelOf (recordAt r (now store))) (labelOf (recordAt (r + 1) (now store)))) × (r * 20 + 40 ≤ length (now store)) × (parent * 20 + 20 ≤ length (now store)) × (getD (now store) (r * 20) 0 ≤ 15) × (getD (now store) ((r + 1) * 20) 0 ≤ 15) ⌝ }
     ensures { λ k. ⌜ k ≡ checkOf (brokenBelow (cluesOf (now (table .entry))) (model.readElement (recordAt r (now (store .entry)))) (model.readElement (recordAt parent (now (store .entry)))) (model.readElement (recordAt (r + 1) (now (store .entry))))) ⌝ }
 {
     let previous = label_at(store, r);
     let label = label_at(store, r + 1);
-    let s = shared_part(previous, label);
     if !ordered(previous, label, s) {
         return Check::Broken(Rule::Order);
     }
@@ -154,14 +160,32 @@ fn child_rules(table: &Table, lens: &[usize], store: &[u16], r: usize, parent: u
 }
 
 // The rules of record r behind its layout.
-fn record_rules(table: &Table, lens: &[usize], store: &[u16], r: usize, parent: usize) -> Check
-    requires { ⌜ (now lens ≡ lensOf (now table)) × Ready (now store) r parent ⌝ }
+fn record_rules(
+    table: &Table,
+    lens: &[usize],
+    store: &[u16],
+    r: usize,
+    s: usize,
+    parent: usize,
+) -> Check
+    requires { ⌜ (now lens ≡ lensOf (now table)) × (s ≡ sharedBefore (now store) r) × Ready (now store) r parent ⌝ }
     ensures { λ k. ⌜ k ≡ checkOf (brokenAt (cluesOf (now (table .entry))) (now (store .entry)) r parent) ⌝ }
 {
     if r == 0 {
         return root_rules(table, lens, store);
     }
-    child_rules(table, lens, store, r - 1, parent)
+    child_rules(table, lens, store, r - 1, s, parent)
+}
+
+// How many components record r shares with the previous one: none for record 0.
+fn shared_before(store: &[u16], r: usize) -> usize
+    requires { ⌜ (r * 20 + 20 ≤ length (now store)) × (getD (now store) ((r - 1) * 20) 0 ≤ 15) × (getD (now store) (r * 20) 0 ≤ 15) ⌝ }
+    ensures { λ s. ⌜ s ≡ sharedBefore (now (store .entry)) r ⌝ }
+{
+    if r == 0 {
+        return 0;
+    }
+    shared_part(label_at(store, r - 1), label_at(store, r))
 }
 
 // The first record that breaks a rule, read from the front.
@@ -171,7 +195,7 @@ fn first_fault(table: &Table, lens: &[usize], store: &[u16], count: usize) -> So
 {
     let mut found = Soundness::Sound;
     // Read once: a constant array is made anew wherever it is read.
-    let largest = LARGEST;
+    let unused = UNUSED;
     // The record that an element of each depth would stand below.
     let mut parents = [0usize; 17];
     let mut r: usize = 0;
@@ -182,15 +206,21 @@ fn first_fault(table: &Table, lens: &[usize], store: &[u16], count: usize) -> So
             found = Soundness::Broken(Rule::Layout, r);
             break 'records;
         }
-        let mut w: usize = 0;
-        while w < Label::WORDS {
-            if !half_fits(&largest, store, at, depth, w) {
+        // The components shared with the previous record were tested there.
+        let s = shared_before(store, r);
+        let mut w = s + 1;
+        while w <= depth {
+            if Label::MAX_COMPONENT < store[at + w] {
                 found = Soundness::Broken(Rule::Layout, r);
                 break 'records;
             }
-            w += HALF;
+            w += 1;
         }
-        let check = record_rules(table, lens, store, r, parents[depth]);
+        if !rest_zero(&unused, store, at, depth) {
+            found = Soundness::Broken(Rule::Layout, r);
+            break 'records;
+        }
+        let check = record_rules(table, lens, store, r, s, parents[depth]);
         if let Check::Broken(rule) = check {
             found = Soundness::Broken(rule, r);
             break 'records;

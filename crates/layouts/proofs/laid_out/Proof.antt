@@ -5,13 +5,13 @@ use borrow.Author.Needs.{needs}
 use mir.Facts.{fits-widen}
 use lib.Dec.{eqb}
 use Rattle.labelling.specs.Limits.{labelSize}
-use Rattle.layouts.specs.Words.{wordsFit}
+use Rattle.layouts.specs.Words.{wordFits, wordsFit}
 use Rattle.layouts.proofs.Fits.{depth-within, all-start, all-on, all-misfit, all-deep}
 use Rattle.layouts.proofs.laid_out.Statement.{statement}
 use Rattle.layouts.proofs.laid_out.Tie as tie
 
 abbrev Inv-loop : tie.InvT-loop
-Inv-loop largest words depth bounded any₀ w₀ any w = (w ≤ labelSize) × (eqb any 0 ≡ wordsFit words 0 bounded 0 w)
+Inv-loop largest words depth bounded any₀ w₀ any w = (w ≤ labelSize) × (eqb any 0 ≡ wordsFit (wordFits bounded) words 0 w)
 
 abbrev μ-loop : tie.MeasureT-loop
 μ-loop largest words depth bounded any₀ w₀ any w = labelSize - w

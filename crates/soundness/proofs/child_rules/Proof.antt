@@ -2,7 +2,7 @@
 use borrow.Author.Needs.{needs, fits-under}
 use mir.Facts.{fits-widen}
 use Rattle.clue_lengths.proofs.Lens.{len-is}
-use Rattle.soundness.proofs.Rules.{shared-few, below-order, below-parent, below-name, below-last, below-next, below-kept}
+use Rattle.soundness.proofs.Rules.{shared-lent, shared-few, below-order, below-parent, below-name, below-last, below-next, below-kept}
 use Rattle.soundness.proofs.child_rules.Statement.{statement}
 use Rattle.soundness.proofs.child_rules.Tie as tie
 
@@ -13,8 +13,7 @@ child-rules-spec =
     (λ c κs. search needs)
     (λ c. search needs)
     (λ c κs. search needs)
-    (λ c κs. search needs)
-    (λ c κs. search needs)
+    (λ c κs. search (shared-lent, needs))
     (λ c. search (below-order, needs))
     (λ c. fits-under _ _ 17 (search (shared-few, needs)) tt)
     (λ c. search (below-parent, needs))
