@@ -1,7 +1,7 @@
 -- What matching answers and leaves, for each way out of its code, and what its calls need on the way.
 -- Assumes nothing.
 use Prim.Native.Nat.{ℕ, _*_, _≤_}
-use mathlib.Core.Path.{_≡_, refl, sym, ap, _∙_}
+use mathlib.Core.Path.{_≡_, refl, sym, ap, subst, _∙_}
 use mathlib.Core.Bool.{Bool, true, false, not}
 use mathlib.Core.List.{List, [], _∷_}
 use mathlib.Core.Option.{Option, none, some}
@@ -12,7 +12,7 @@ use Rattle.labelling.specs.Basics.{all, total, joined, over}
 use Rattle.labelling.specs.Limits.{labelSize, maxElements}
 use Rattle.labelling.specs.Refusals.{Refusal, first, check}
 use Rattle.labelling.specs.Names.{cluesOf}
-use Rattle.patterns.specs.Twigs.{readTwig, twigCheck, wanted}
+use Rattle.patterns.specs.Twigs.{readTwig, twigCheck, wanted, leafNames}
 use Rattle.patterns.specs.Matches.{matchWords}
 use Rattle.labelling.specs.Outputs.{listed, roomCheck}
 use Rattle.patterns.specs.Matching.{labelsCheck, matchesOf, matchRefusal, matchCall}
@@ -23,8 +23,9 @@ use Rattle.refusals.specs.declared.Refusal as declared
 use Rattle.refusals.specs.declared.Verdict.{Verdict}
 use Rattle.refusals.specs.declared.Verdict.the-variants as verdict
 use Rattle.refusals.proofs.Verdicts.{passed-none, refused-some}
-use Rattle.plans.specs.Plans.{isFew, countsCheck, Plan, PlanFor}
+use Rattle.plans.specs.Plans.{isFew, countsCheck, startsOf, countsOf, guidesOf, Plan}
 use Rattle.plans.proofs.Counts.{counts-each, counts-few, counts-words, words-small}
+use Rattle.plans.proofs.Planning.{plan-made}
 use Rattle.plans.proofs.Plans as plans
 use Rattle.reading.specs.Reads.{Reads}
 use Rattle.places.specs.Settings.{Sharing}
@@ -43,17 +44,26 @@ refused-alike none (some x) c d s cs r h e = e
 refused-alike none none (some x) d s cs r h e = e
 refused-alike none none none d s cs r h e = first-here r s cs (h (sym (first-last d) ∙ e))
 
--- an input that passed is ready to be planned
-pub plan-ready : (rows : List (List ℕ)) (root : ℕ) (bytes counts : List ℕ) (words : ℕ) {v : Verdict} → v ≡ verdictOf (inputCheck rows root bytes counts words) → v ≡ verdict.Passed →
-    (twigCheck bytes ≡ none) × (countsCheck (readTwig bytes) counts words ≡ none)
-plan-ready rows root bytes counts words checked f =
-    let passed = passed-none (inputCheck rows root bytes counts words) checked f in
-    (input-twig rows root bytes counts words passed, input-counts rows root bytes counts words passed)
+-- an input that passed
+module _ (rows : List (List ℕ)) (root : ℕ) (bytes counts : List ℕ) (words : ℕ) {v : Verdict} (checked : v ≡ verdictOf (inputCheck rows root bytes counts words))
+    (f : v ≡ verdict.Passed) where
+  -- its twig and its counts are accepted
+  twig-counts : (twigCheck bytes ≡ none) × (countsCheck (readTwig bytes) counts words ≡ none)
+  twig-counts =
+      let passed = passed-none (inputCheck rows root bytes counts words) checked f in
+      (input-twig rows root bytes counts words passed, input-counts rows root bytes counts words passed)
 
--- a plan for every buffer of its length is one for a buffer
-pub plan-here : (bytes counts buffer : List ℕ) {starts lens guides : List ℕ} → PlanFor (readTwig bytes) counts (length buffer) starts lens guides →
-    Plan (readTwig bytes) counts buffer starts lens guides
-plan-here bytes counts buffer p = p buffer refl
+  -- it is ready to be planned
+  pub plan-ready : (twigCheck bytes ≡ none) × (length counts ≡ length (leafNames (wanted (readTwig bytes)))) × (all isFew counts ≡ true)
+  plan-ready = let (twig, fitting) = twig-counts in (twig, counts-each _ counts words fitting, counts-few _ counts words fitting)
+
+  -- what is made of it is a plan for a buffer of its length
+  pub plan-here : (buffer : List ℕ) → words ≡ length buffer → (starts₀ lens₀ guides₀ : List ℕ) {starts lens guides : List ℕ} →
+      starts ≡ startsOf (readTwig bytes) counts starts₀ → lens ≡ countsOf (readTwig bytes) counts lens₀ → guides ≡ guidesOf (readTwig bytes) guides₀ →
+      length starts₀ ≡ 8 → length lens₀ ≡ 8 → length guides₀ ≡ 8 → Plan (readTwig bytes) counts buffer starts lens guides
+  plan-here buffer long starts₀ lens₀ guides₀ d e g a b c =
+      let (twig, fitting) = twig-counts in
+      plan-made bytes twig counts buffer (subst (λ n. countsCheck (readTwig bytes) counts n ≡ none) long fitting) starts₀ lens₀ guides₀ a b c d e g
 
 module _ (rows : List (List ℕ)) (root : ℕ) (bytes counts buffer out : List ℕ) where
   -- a refused call leaves the output
