@@ -39,7 +39,7 @@ pub fn outcome(v: Verdict, count: usize, words: &[u16], was: &[u16]) {
 pub fn begin(words: &mut [u16], len: usize, root: u8) -> usize {
     let mut was = [0u16; LARGEST];
     copy(&mut was, words);
-    let c = store::new_store(front_mut(words, len), root, PAYLOAD);
+    let c = new_stores::new_store(front_mut(words, len), root, PAYLOAD);
     let v = c.verdict;
     outcome(v, c.count, words, &was);
     c.count
@@ -58,7 +58,7 @@ fn given(label: [u16; 16]) {
 pub fn enter(table: Table, words: &mut [u16], size: Store, parent: &[u16], name: u8) -> usize {
     let mut was = [0u16; LARGEST];
     copy(&mut was, words);
-    let e = store::enter(
+    let e = entries::enter(
         table,
         front_mut(words, size.words),
         size.count,
@@ -77,7 +77,7 @@ pub fn enter(table: Table, words: &mut [u16], size: Store, parent: &[u16], name:
 pub fn delete(table: Table, words: &mut [u16], size: Store, label: &[u16]) -> usize {
     let mut was = [0u16; LARGEST];
     copy(&mut was, words);
-    let c = store::delete(table, front_mut(words, size.words), size.count, label);
+    let c = deletions::delete(table, front_mut(words, size.words), size.count, label);
     let v = c.verdict;
     outcome(v, c.count, words, &was);
     c.count

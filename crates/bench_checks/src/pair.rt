@@ -17,10 +17,10 @@ use crate::given::VEHICLE;
 use crate::show::number;
 use crate::show::say;
 use crate::slices::copy;
+use entries::Entry;
+use entries::enter;
 use name_files::bench_table;
-use store::Entry;
-use store::enter;
-use store::new_store;
+use new_stores::new_store;
 
 // The payloads of the cars.
 const FIRST: u16 = 11;

@@ -9,12 +9,12 @@ use crate::given::GARAGE;
 use crate::given::NOTE;
 use crate::given::TEST;
 use crate::given::VEHICLE;
+use deletions::delete;
+use entries::enter;
 use name_files::bench_table;
 use name_files::read_names;
 use names::Table;
-use store::delete;
-use store::enter;
-use store::new_store;
+use new_stores::new_store;
 
 // An entry that is not shown, with a mark as its payload; the count after it.
 fn grow(words: &mut [u16], count: usize, parent: [u16; 16], name: u8, mark: u16) -> usize {

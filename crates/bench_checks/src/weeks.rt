@@ -14,10 +14,10 @@ use crate::show::number;
 use crate::show::say;
 use crate::slices::count_of;
 use crate::stores::End;
+use deletions::delete;
+use entries::enter;
 use name_files::bench_table;
-use store::delete;
-use store::enter;
-use store::new_store;
+use new_stores::new_store;
 
 // The vehicles of a week: fourteen a day for seven days.
 const A_WEEK: usize = 98;

@@ -25,7 +25,7 @@ use Rattle.lookup.specs.Places.{placeAt, foundOf, Searchable}
 use Rattle.lookup.proofs.Places.{searchable}
 use Rattle.soundness.specs.Rules.{storeCheck}
 use Rattle.soundness.proofs.Stores.{store-refused, store-passed, store-sound, store-room}
-use Rattle.store.specs.Answers.{callCheck}
+use Rattle.changes.specs.Answers.{callCheck}
 
 -- a label that was found
 pub found-at : (o : Option ℕ) {f : Found} {a : ℕ} → f ≡ found.At a → f ≡ foundOf o → o ≡ some a

@@ -24,10 +24,11 @@ use Rattle.lookup.specs.declared.Found.{Found}
 use Rattle.lookup.specs.declared.Found.the-variants as found
 use Rattle.lookup.specs.Places.{placeAt, foundOf, passes, leading, Searchable}
 use Rattle.lookup.proofs.Places.{place-before-end}
-use Rattle.store.specs.Answers.{callCheck, Changed, changed, changeOf, subtreeRemoved}
-use Rattle.store.proofs.InUse.{end-used, find-absent, find-found}
-use Rattle.store.proofs.Deletions.{delete-count, delete-words}
-use Rattle.store.proofs.Checks.{found-at, found-absent, call-refused, call-passed, call-sound, call-room, checks-passed}
+use Rattle.changes.specs.Answers.{callCheck, Changed, changed, changeOf}
+use Rattle.deletions.specs.Answers.{subtreeRemoved}
+use Rattle.changes.proofs.InUse.{end-used, find-absent, find-found}
+use Rattle.deletions.proofs.Deletions.{delete-count, delete-words}
+use Rattle.changes.proofs.Checks.{found-at, found-absent, call-refused, call-passed, call-sound, call-room, checks-passed}
 
 module _ (count : ℕ) (ws : List ℕ) (l : Label) (a : ℕ) (can : Searchable count ws) (at : placeAt l (elements count ws) ≡ some a)
     {end : ℕ} (ends : end ≡ leading (passes true l) (elements count ws)) where

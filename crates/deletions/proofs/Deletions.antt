@@ -17,8 +17,8 @@ use Rattle.storage.proofs.Sizes.{length-elements-read}
 use Rattle.moving.specs.Moves.{removed}
 use Rattle.lookup.specs.Places.{placeAt, passes, leading}
 use Rattle.lookup.proofs.Places.{searchable, place-leading, place-before-end, without-leading}
-use Rattle.store.proofs.Splices.{words-gap}
-use Rattle.store.proofs.InUse.{records-behind, subtree-end, sound-fit, sound-words}
+use Rattle.changes.proofs.Splices.{words-gap}
+use Rattle.changes.proofs.InUse.{records-behind, subtree-end, sound-fit, sound-words}
 
 -- the records in use with some taken out and zeros behind them, written over the slice
 remove-over : (ws : List ℕ) (a b count : ℕ) → a ≤ b → b ≤ count → recordSize * count ≤ length ws →

@@ -12,7 +12,7 @@ use Rattle.labelling.specs.Limits.{maxDepth, labelSize}
 use Rattle.labelling.specs.Labels.{Label, labelOf, labelWords, isLabel}
 use Rattle.storage.specs.Store.{elementWords}
 use Rattle.labelling.proofs.LabelWords.{isLabel-iff, labelWords-labelOf}
-use Rattle.store.specs.Answers.{rootElement}
+use Rattle.changes.specs.Answers.{rootElement}
 
 module _ (ws : List ℕ) (good : isLabel ws ≡ true) where
   -- a label has sixteen words

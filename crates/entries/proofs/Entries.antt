@@ -19,9 +19,9 @@ use Rattle.storage.proofs.Words.{length-elementWords}
 use Rattle.moving.specs.Moves.{inserted}
 use Rattle.lookup.specs.Places.{placeAt, passes, leading}
 use Rattle.lookup.proofs.Places.{searchable, placed-leading}
-use Rattle.store.proofs.Splices.{words-splice}
-use Rattle.store.proofs.Raises.{leading-raised, words-raised}
-use Rattle.store.proofs.InUse.{records-behind, subtree-end, sound-fit, sound-words, place-used, parent-label}
+use Rattle.changes.proofs.Splices.{words-splice}
+use Rattle.entries.proofs.Raises.{leading-raised, words-raised}
+use Rattle.changes.proofs.InUse.{records-behind, subtree-end, sound-fit, sound-words, place-used, parent-label}
 
 -- the records in use with one put in, written over the slice
 insert-over : (ws out rec : List ℕ) (b count : ℕ) → b ≤ count → recordSize * (count + 1) ≤ length ws → length rec ≡ recordSize →

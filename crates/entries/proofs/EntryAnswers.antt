@@ -23,12 +23,13 @@ use Rattle.records.specs.Records.{recordAt}
 use Rattle.lookup.specs.declared.Found.{Found}
 use Rattle.lookup.specs.declared.Found.the-variants as found
 use Rattle.lookup.specs.Places.{placeAt, foundOf}
-use Rattle.store.specs.declared.Entry.{Entry}
-use Rattle.store.specs.Answers.{callCheck, Entered, entered, entryOf, refusedEntry, childAnswer, childAdded, enteredBelow}
-use Rattle.store.proofs.InUse.{find-absent, find-found, parent-read, parent-label, label-high}
-use Rattle.store.proofs.Entries.{enter-words}
-use Rattle.store.proofs.Checks.{found-label, found-absent, call-refused, call-passed, call-sound, checks-passed}
-use Rattle.store.proofs.Gifts.{passed-high}
+use Rattle.entries.specs.declared.Entry.{Entry}
+use Rattle.changes.specs.Answers.{callCheck}
+use Rattle.entries.specs.Answers.{Entered, entered, entryOf, refusedEntry, childAnswer, childAdded, enteredBelow}
+use Rattle.changes.proofs.InUse.{find-absent, find-found, parent-read, parent-label, label-high}
+use Rattle.entries.proofs.Entries.{enter-words}
+use Rattle.changes.proofs.Checks.{found-label, found-absent, call-refused, call-passed, call-sound, checks-passed}
+use Rattle.entries.proofs.Gifts.{passed-high}
 
 -- an entry that is refused
 entry-refused : (rows : List (List ℕ)) (ws : List ℕ) (count : ℕ) (lw : List ℕ) (name p0 p1 : ℕ) {r : Refusal} {v : Verdict} {e : Entry} →

@@ -4,9 +4,10 @@ use Prim.Native.Nat.{ℕ}
 use mathlib.Core.Path.{_≡_, ap, _∙_}
 use mathlib.Core.List.{List}
 use Rattle.storage.specs.Updates as updates
-use Rattle.store.specs.Answers.{Changed, changed, changeOf, Entered, entered, entryOf}
-use Rattle.store.specs.declared.Change.{Change}
-use Rattle.store.specs.declared.Entry.{Entry}
+use Rattle.changes.specs.Answers.{Changed, changed, changeOf}
+use Rattle.entries.specs.Answers.{Entered, entered, entryOf}
+use Rattle.changes.specs.declared.Change.{Change}
+use Rattle.entries.specs.declared.Entry.{Entry}
 use Rattle.name_files.specs.Rows.{tableIn}
 use Rattle.answers.specs.Reports.{fitted, Report, reportBy}
 use Rattle.answers.proofs.Verdicts.{told-check}

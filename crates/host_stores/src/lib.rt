@@ -19,7 +19,7 @@ pub fn new_store(
     ensures told { λ n. ⌜ report n (now (answer .exit)) ≡ changeReport (updates.newStore (now (store .entry)) root payload0 payload1) (now (answer .entry)) ⌝ }
     ensures written { λ n. ⌜ now (store .exit) ≡ updates.newStore (now (store .entry)) root payload0 payload1 .slice ⌝ }
 {
-    let opened = store::new_store(store, root, [payload0, payload1]);
+    let opened = new_stores::new_store(store, root, [payload0, payload1]);
     let verdict = opened.verdict;
     tell(verdict, opened.count, answer)
 }
@@ -40,7 +40,7 @@ pub fn enter(
     ensures written { λ n. ⌜ now (store .exit) ≡ updates.enter (tableIn (now (table .entry))) (now (store .entry)) count (now (parent .entry)) name payload0 payload1 .slice ⌝ }
     ensures labelled { λ n. ⌜ now (label .exit) ≡ fitted (updates.enter (tableIn (now (table .entry))) (now (store .entry)) count (now (parent .entry)) name payload0 payload1 .label) (now (label .entry)) ⌝ }
 {
-    let entered = store::enter(
+    let entered = entries::enter(
         table_in(table),
         store,
         count,
@@ -65,7 +65,7 @@ pub fn delete(
     ensures told { λ n. ⌜ report n (now (answer .exit)) ≡ changeReport (updates.delete (tableIn (now (table .entry))) (now (store .entry)) count (now (label .entry))) (now (answer .entry)) ⌝ }
     ensures written { λ n. ⌜ now (store .exit) ≡ updates.delete (tableIn (now (table .entry))) (now (store .entry)) count (now (label .entry)) .slice ⌝ }
 {
-    let deleted = store::delete(table_in(table), store, count, label);
+    let deleted = deletions::delete(table_in(table), store, count, label);
     let verdict = deleted.verdict;
     tell(verdict, deleted.count, answer)
 }

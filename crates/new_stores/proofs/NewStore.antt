@@ -19,7 +19,7 @@ use Rattle.refusals.specs.Answers.{verdictOf}
 use Rattle.refusals.specs.declared.Verdict.{Verdict}
 use Rattle.refusals.specs.declared.Verdict.the-variants as verdict
 use Rattle.moving.specs.Moves.{inserted}
-use Rattle.store.specs.Answers.{rootElement, changed, changeOf}
+use Rattle.changes.specs.Answers.{rootElement, changed, changeOf}
 
 module _ (ws : List ℕ) (root p0 p1 : ℕ) {b : Bool} (is : b ≡ isSlice (length ws)) where
   -- a length that is no slice's

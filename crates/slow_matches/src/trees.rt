@@ -9,12 +9,12 @@ use crate::slices::front;
 use crate::slices::sum;
 use crate::slices::word;
 use crate::tables::table;
+use deletions::delete;
+use entries::enter;
 use labels::Label;
 use names::TABLE_SIZE;
+use new_stores::new_store;
 use records::Store;
-use store::delete;
-use store::enter;
-use store::new_store;
 
 // The words of a store of 240 records.
 pub const STORE_WORDS: usize = 4800;

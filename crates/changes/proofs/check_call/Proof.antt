@@ -1,8 +1,8 @@
--- `store::check_call` meets its contract: the checks of the store, then that of the label.
+-- `changes::check_call` meets its contract: the checks of the store, then that of the label.
 use borrow.Author.Needs.{needs}
-use Rattle.store.proofs.Checks.{call-unsound, call-labelled}
-use Rattle.store.proofs.check_call.Statement.{statement}
-use Rattle.store.proofs.check_call.Tie as tie
+use Rattle.changes.proofs.Checks.{call-unsound, call-labelled}
+use Rattle.changes.proofs.check_call.Statement.{statement}
+use Rattle.changes.proofs.check_call.Tie as tie
 
 pub check-call-spec : {M : Type 1} → statement M
 check-call-spec =

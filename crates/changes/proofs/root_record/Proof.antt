@@ -1,9 +1,9 @@
--- `store::root_record` meets its contract: three words of a row of zeros written.
+-- `changes::root_record` meets its contract: three words of a row of zeros written.
 use borrow.Author.Needs.{needs}
 use Rattle.labelling.specs.Labels.{labelWords}
 use Rattle.storage.specs.Store.{elementWords}
-use Rattle.store.proofs.root_record.Statement.{statement}
-use Rattle.store.proofs.root_record.Tie as tie
+use Rattle.changes.proofs.root_record.Statement.{statement}
+use Rattle.changes.proofs.root_record.Tie as tie
 
 pub root-record-spec : {M : Type 1} → statement M
 unfolding elementWords labelWords

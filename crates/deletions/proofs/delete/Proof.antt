@@ -1,9 +1,9 @@
--- `store::delete` meets its contract: 22, 18, 19, 15, 14 and 9 in turn, else the subtree taken out.
+-- `deletions::delete` meets its contract: 22, 18, 19, 15, 14 and 9 in turn, else the subtree taken out.
 use borrow.Author.Needs.{needs}
-use Rattle.store.proofs.Checks.{found-at, call-searchable, call-label}
-use Rattle.store.proofs.DeletionAnswers.{delete-unchecked, delete-root, delete-absent, delete-done}
-use Rattle.store.proofs.delete.Statement.{statement}
-use Rattle.store.proofs.delete.Tie as tie
+use Rattle.changes.proofs.Checks.{found-at, call-searchable, call-label}
+use Rattle.deletions.proofs.DeletionAnswers.{delete-unchecked, delete-root, delete-absent, delete-done}
+use Rattle.deletions.proofs.delete.Statement.{statement}
+use Rattle.deletions.proofs.delete.Tie as tie
 
 pub delete-spec : {M : Type 1} → statement M
 delete-spec =

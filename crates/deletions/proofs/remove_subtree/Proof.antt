@@ -1,9 +1,9 @@
--- `store::remove_subtree` meets its contract: the records from the label's to the subtree's end taken out.
+-- `deletions::remove_subtree` meets its contract: the records from the label's to the subtree's end taken out.
 use borrow.Author.Needs.{needs}
-use Rattle.store.proofs.InUse.{end-used}
-use Rattle.store.proofs.DeletionAnswers.{subtree-some, subtree-over, subtree-fewer, subtree-removed}
-use Rattle.store.proofs.remove_subtree.Statement.{statement}
-use Rattle.store.proofs.remove_subtree.Tie as tie
+use Rattle.changes.proofs.InUse.{end-used}
+use Rattle.deletions.proofs.DeletionAnswers.{subtree-some, subtree-over, subtree-fewer, subtree-removed}
+use Rattle.deletions.proofs.remove_subtree.Statement.{statement}
+use Rattle.deletions.proofs.remove_subtree.Tie as tie
 
 pub remove-subtree-spec : {M : Type 1} → statement M
 remove-subtree-spec =

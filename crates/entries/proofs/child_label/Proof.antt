@@ -1,8 +1,8 @@
--- `store::child_label` meets its contract: the parent's words copied, two of them written.
+-- `entries::child_label` meets its contract: the parent's words copied, two of them written.
 use borrow.Author.Needs.{needs}
-use Rattle.store.proofs.Children.{label-sixteen, label-child}
-use Rattle.store.proofs.child_label.Statement.{statement}
-use Rattle.store.proofs.child_label.Tie as tie
+use Rattle.entries.proofs.Children.{label-sixteen, label-child}
+use Rattle.entries.proofs.child_label.Statement.{statement}
+use Rattle.entries.proofs.child_label.Tie as tie
 
 pub child-label-spec : {M : Type 1} → statement M
 child-label-spec =

@@ -1,8 +1,8 @@
--- `store::child_record` meets its contract: a label copied over the root's.
+-- `entries::child_record` meets its contract: a label copied over the root's.
 use borrow.Author.Needs.{needs}
-use Rattle.store.proofs.Children.{record-child}
-use Rattle.store.proofs.child_record.Statement.{statement}
-use Rattle.store.proofs.child_record.Tie as tie
+use Rattle.entries.proofs.Children.{record-child}
+use Rattle.entries.proofs.child_record.Statement.{statement}
+use Rattle.entries.proofs.child_record.Tie as tie
 
 pub child-record-spec : {M : Type 1} → statement M
 child-record-spec =

@@ -1,9 +1,9 @@
--- `store::enter` meets its contract: 22, 18, 19, 15 and 9 in turn, else what the parent answers.
+-- `entries::enter` meets its contract: 22, 18, 19, 15 and 9 in turn, else what the parent answers.
 use borrow.Author.Needs.{needs}
-use Rattle.store.proofs.Checks.{found-label, call-searchable, call-label}
-use Rattle.store.proofs.EntryAnswers.{enter-unchecked, enter-absent, enter-done}
-use Rattle.store.proofs.enter.Statement.{statement}
-use Rattle.store.proofs.enter.Tie as tie
+use Rattle.changes.proofs.Checks.{found-label, call-searchable, call-label}
+use Rattle.entries.proofs.EntryAnswers.{enter-unchecked, enter-absent, enter-done}
+use Rattle.entries.proofs.enter.Statement.{statement}
+use Rattle.entries.proofs.enter.Tie as tie
 
 pub enter-spec : {M : Type 1} → statement M
 enter-spec =

@@ -1,9 +1,9 @@
--- `store::enter_below` meets its contract: what the parent refuses, else the child added.
+-- `entries::enter_below` meets its contract: what the parent refuses, else the child added.
 use borrow.Author.Needs.{needs}
-use Rattle.store.proofs.InUse.{record-inside, record-shallow}
-use Rattle.store.proofs.Gifts.{gift-low, gift-high, below-refused, below-added}
-use Rattle.store.proofs.enter_below.Statement.{statement}
-use Rattle.store.proofs.enter_below.Tie as tie
+use Rattle.changes.proofs.InUse.{record-inside, record-shallow}
+use Rattle.entries.proofs.Gifts.{gift-low, gift-high, below-refused, below-added}
+use Rattle.entries.proofs.enter_below.Statement.{statement}
+use Rattle.entries.proofs.enter_below.Tie as tie
 
 pub enter-below-spec : {M : Type 1} → statement M
 enter-below-spec =

@@ -1,9 +1,9 @@
--- `store::number_below` meets its contract: 10, 11 and 12 in turn, else the number.
+-- `entries::number_below` meets its contract: 10, 11 and 12 in turn, else the number.
 use borrow.Author.Needs.{needs}
 use mir.Facts.{fits-widen}
-use Rattle.store.proofs.Gifts.{gift-absent, gift-deep, gift-none, gift-given}
-use Rattle.store.proofs.number_below.Statement.{statement}
-use Rattle.store.proofs.number_below.Tie as tie
+use Rattle.entries.proofs.Gifts.{gift-absent, gift-deep, gift-none, gift-given}
+use Rattle.entries.proofs.number_below.Statement.{statement}
+use Rattle.entries.proofs.number_below.Tie as tie
 
 pub number-below-spec : {M : Type 1} → statement M
 number-below-spec =

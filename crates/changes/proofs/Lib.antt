@@ -1,0 +1,3 @@
+pub mod Splices
+pub mod InUse
+pub mod Checks

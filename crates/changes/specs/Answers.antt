@@ -1,0 +1,32 @@
+-- What the answers of the code tell, by the definitions of `storage`.
+use Prim.Native.Nat.{ℕ}
+use mathlib.Core.List.{List, [], _∷_}
+use mathlib.Core.Option.{Option}
+use Rattle.labelling.specs.Labels.{labelCheck}
+use Rattle.labelling.specs.Refusals.{Refusal, first}
+use Rattle.storage.specs.Store.{Element}
+use Rattle.storage.specs.Updates as model
+use Rattle.refusals.specs.Answers.{verdictOf}
+use Rattle.soundness.specs.Rules.{storeCheck}
+use Rattle.changes.specs.declared.Change.{Change}
+
+-- the checks before those of a call's own: of table, sizes, records and label, 22, 18, 19, 15, in this order
+unfoldable pub callCheck : List (List ℕ) → List ℕ → ℕ → List ℕ → Option Refusal
+callCheck rows ws count lw = first (storeCheck rows ws count ∷ labelCheck lw ∷ [])
+
+-- what a call answers, beside the words it leaves
+pub record Changed : Type 0 where
+  pub answer : Change
+  pub words : List ℕ
+
+-- an answer and the words left
+abbrev pub changed : Change → List ℕ → Changed
+changed r ws = record { answer = r; words = ws }
+
+-- what a new store or a deletion answers and leaves
+abbrev pub changeOf : model.Answer → Changed
+changeOf a = changed (record { verdict = verdictOf (a .refusal); count = a .count }) (a .slice)
+
+-- the root's element
+abbrev pub rootElement : ℕ → ℕ → ℕ → Element
+rootElement name p0 p1 = record { label = []; name = name; next = 0; payload0 = p0; payload1 = p1 }

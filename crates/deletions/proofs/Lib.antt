@@ -1,0 +1,2 @@
+pub mod Deletions
+pub mod DeletionAnswers
