@@ -22,9 +22,10 @@ use Rattle.labelling.proofs.LabelOrder.{before-order, same?}
 use Rattle.labelling.proofs.Kinship.{shared-alike, shared-low}
 use Rattle.storage.proofs.Relaid.{test-none, test-rest, test-passes}
 use Rattle.records.specs.Records.{recordAt}
-use Rattle.records.proofs.Parts.{record-depth, record-label, record-long}
+use Rattle.records.proofs.Parts.{record-depth}
 use Rattle.soundness.specs.Rules.{Laid, brokenRoot, brokenBelow, brokenAt}
 use Rattle.soundness.proofs.Fits.{fitting-depth, depth-root, depth-below}
+use Rattle.soundness.proofs.Shared.{component-count}
 use Rattle.soundness.proofs.Trail.{behind, Trail, parent-shared, find-none}
 
 -- a test that is true passes
@@ -66,7 +67,7 @@ module _ (ws : List ℕ) (r : ℕ) (room : r * recordSize + recordSize ≤ lengt
   -- the label is as long as the depth says
   label-long : length (readElement (recordAt r ws) .label) ≡ getD ws (r * recordSize) 0
   unfolding readElement
-  label-long = let low = fitting-depth r _ (laid .0) in ap length (sym (record-label ws r low)) ∙ record-long ws r low room
+  label-long = component-count ws r (fitting-depth r _ (laid .0)) room
 
   -- the record of its own label
   line-self : (parents : List ℕ) → length parents ≡ 17 → (j : ℕ) → j ≡ length (readElement (recordAt r ws) .label) →

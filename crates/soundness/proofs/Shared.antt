@@ -4,7 +4,7 @@ use mathlib.Core.Path.{_≡_, refl, sym, ap, _∙_}
 use mathlib.Core.List.{List}
 use native.Mathlib.Nat.{add-zero}
 use native.Mathlib.Omega.{arith}
-use lib.ListN.{length, getD, take, drop}
+use lib.ListN.{length, getD, drop}
 use lib.Seq.{getD-take, getD-drop}
 use borrow.Author.Tests.{le-leb}
 use Rattle.labelling.specs.Limits.{maxComponent, maxDepth, recordSize}
@@ -50,7 +50,7 @@ component-word ws r j low deep =
     record-word ws r (1 + j) (omega arith) ∙ ap (λ i. getD ws (r * recordSize + i) 0) behind
 
 -- a record has as many components as its depth says
-component-count : (ws : List ℕ) (r : ℕ) → getD ws (r * recordSize) 0 ≤ maxDepth → r * recordSize + recordSize ≤ length ws →
+pub component-count : (ws : List ℕ) (r : ℕ) → getD ws (r * recordSize) 0 ≤ maxDepth → r * recordSize + recordSize ≤ length ws →
     length (labelOf (recordAt r ws)) ≡ getD ws (r * recordSize) 0
 component-count ws r deep room = ap length (sym (record-label ws r deep)) ∙ record-long ws r deep room
 
