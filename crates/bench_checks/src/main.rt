@@ -1,65 +1,21 @@
-// The paper's checks of names, labels, stores and matching, run and printed.
-mod among;
-mod calls;
-mod elements;
-mod files;
-mod given;
-mod label_words;
-mod limits;
-mod matchings;
-mod pair;
-mod refused;
-mod room;
+// The paper's checks of names, labels, stores and matching, run and printed. The cases are the lines of the file `stdin`.
+mod alone;
+mod cars;
+mod growth;
+mod lines;
+mod outputs;
+mod row;
 mod show;
-mod slices;
 mod stores;
-mod streams;
-mod unsound;
-mod weeks;
 
-use files::files;
-use files::tables;
-use given::numbers;
-use label_words::decodings;
-use label_words::kinships;
-use label_words::labels;
-use label_words::order;
-use limits::depths;
-use limits::largest;
-use matchings::matchings;
-use pair::pair;
-use refused::cuttings;
-use refused::deletions;
-use refused::entries;
-use refused::new_stores;
-use room::room;
-use streams::streams;
-use unsound::rules;
-use weeks::weeks;
-
-// Stores: the installer's pair, two weeks, and what a store refuses.
-fn store_checks() {
-    pair();
-    weeks();
-    room();
-    depths();
-    largest();
-    entries();
-    deletions();
-    new_stores();
-    cuttings();
-    rules();
-    streams();
-    matchings();
-}
+use guards::front_bytes;
+use lines::lines;
+use stores::LARGEST;
 
 fn main() {
-    numbers();
-    files();
-    tables();
-    labels();
-    decodings();
-    kinships();
-    order();
-    store_checks();
+    let mut text = io::large_buffer();
+    let n = io::read_full(0, &mut text);
+    let mut words = [0u16; LARGEST];
+    let mut was = [0u16; LARGEST];
+    lines(front_bytes(&text, n), &mut words, &mut was);
 }

@@ -1,0 +1,60 @@
+// What the numbers of a row stand for.
+use guards::number;
+use guards::put_word;
+use name_files::bench_table;
+use name_files::read_names;
+use names::Table;
+
+// The places of a row: how many numbers it has, and the numbers.
+pub const ROW: usize = 40;
+
+// The sum of two numbers.
+pub fn sum(a: usize, b: usize) -> usize {
+    std::num::wrapping_add_usize(a, b)
+}
+
+// A number of a row as a word.
+pub fn half(row: &[usize], i: usize) -> u16 {
+    (number(row, i) % 65536) as u16
+}
+
+// A number of a row as a byte.
+pub fn octet(row: &[usize], i: usize) -> u8 {
+    (number(row, i) % 256) as u8
+}
+
+// Some numbers of a row put over the front of words; what is not in the row is 0.
+pub fn put_words(row: &[usize], from: usize, many: usize, words: &mut [u16]) {
+    let mut i: usize = 0;
+    while i < many {
+        put_word(words, i, half(row, sum(from, i)));
+        i += 1;
+    }
+}
+
+// Names 0 to 63, in a row of a table that has no filling.
+fn all_names() -> [u8; 64] {
+    let mut names = [0u8; 64];
+    let mut i: u8 = 0;
+    while i < 64 {
+        names[i as usize] = i;
+        i += 1;
+    }
+    names
+}
+
+// A table: 0 the bench's, 1 that with an entry that is no name, 2 name 0 below itself, 3 all names below the first and the last.
+pub fn table(kind: usize) -> Table {
+    let mut t = bench_table();
+    if kind == 1 {
+        t[0][0] = 64;
+    }
+    if kind == 2 {
+        read_names(&[0, 0, 0, 1], &mut t);
+    }
+    if kind == 3 {
+        t[0] = all_names();
+        t[63] = all_names();
+    }
+    t
+}
