@@ -9,13 +9,13 @@ use crate::garage::with_twig;
 use crate::made::put_word;
 use crate::show::number;
 use crate::show::say;
-use crate::slices::put;
+use guards::put_byte;
 use records::Store;
 
 // Byte i of names.tab is 64.
 fn name_byte(i: usize) {
     let mut names = NAMES;
-    put(&mut names, i, 64);
+    put_byte(&mut names, i, 64);
     number(i);
     with_names(b": ", &names);
 }
@@ -50,7 +50,7 @@ fn record_words(count: usize) {
 // Byte i of twig.rec is 77.
 fn twig_byte(i: usize) {
     let mut twig = TWIG;
-    put(&mut twig, i, 77);
+    put_byte(&mut twig, i, 77);
     number(i);
     with_twig(b": ", &twig);
 }

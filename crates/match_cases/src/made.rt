@@ -1,5 +1,6 @@
 // Store files made in memory, record by record.
-use crate::slices::put;
+use guards::front_bytes;
+use guards::put_byte;
 use records::Store;
 
 // The bytes of a record.
@@ -32,8 +33,8 @@ fn spot(r: usize, w: usize) -> usize {
 // Word w of record r.
 pub fn put_word(store: &mut [u8], r: usize, w: usize, x: u16) {
     let at = spot(r, w);
-    put(store, at, low(x));
-    put(store, std::num::wrapping_add_usize(at, 1), high(x));
+    put_byte(store, at, low(x));
+    put_byte(store, std::num::wrapping_add_usize(at, 1), high(x));
 }
 
 // The depth and the components of record r.
@@ -67,9 +68,5 @@ pub fn put_chain(store: &mut [u8], label: &[u16], next: u16) {
 
 // The first records of a file.
 pub fn first_records(store: &[u8], count: usize) -> &[u8] {
-    let len = spot(count, 0);
-    if store.len() < len {
-        return store;
-    }
-    &store[0..len]
+    front_bytes(store, spot(count, 0))
 }

@@ -7,7 +7,6 @@ mod name_cases;
 mod ordered;
 mod room;
 mod show;
-mod slices;
 mod store_cases;
 mod twig_cases;
 mod unsound;

@@ -1,8 +1,8 @@
 // Child-name files: 1 to 3, and tables that the example's store does not fit.
 use crate::garage::NAMES;
 use crate::garage::with_names;
-use crate::slices::front;
-use crate::slices::put;
+use guards::front_bytes;
+use guards::put_byte;
 use name_files::MAX_FILE;
 use names::MAX_NAME;
 
@@ -11,8 +11,8 @@ fn put_children(names: &mut [u8], from: usize, parent: u8) -> usize {
     let mut at = from;
     let mut child: u8 = 0;
     while child <= MAX_NAME {
-        put(names, at, parent);
-        put(names, std::num::wrapping_add_usize(at, 1), child);
+        put_byte(names, at, parent);
+        put_byte(names, std::num::wrapping_add_usize(at, 1), child);
         at = std::num::wrapping_add_usize(at, 2);
         child += 1;
     }
@@ -33,8 +33,8 @@ fn put_pairs(names: &mut [u8]) {
 fn longest() {
     let mut names = [0u8; MAX_FILE + 2];
     put_pairs(&mut names);
-    with_names(b"every pair, 8,192 bytes: ", front(&names, MAX_FILE));
-    with_names(b"a byte more: ", front(&names, MAX_FILE + 1));
+    with_names(b"every pair, 8,192 bytes: ", front_bytes(&names, MAX_FILE));
+    with_names(b"a byte more: ", front_bytes(&names, MAX_FILE + 1));
     with_names(b"a pair more: ", &names);
 }
 
@@ -42,9 +42,9 @@ fn longest() {
 fn lengths() {
     with_names(b"no names.tab: ", &[]);
     with_names(b"names.tab of one byte: ", &[0]);
-    with_names(b"its last byte cut off: ", front(&NAMES, 13));
-    with_names(b"its last pair cut off: ", front(&NAMES, 12));
-    with_names(b"one pair: ", front(&NAMES, 2));
+    with_names(b"its last byte cut off: ", front_bytes(&NAMES, 13));
+    with_names(b"its last pair cut off: ", front_bytes(&NAMES, 12));
+    with_names(b"one pair: ", front_bytes(&NAMES, 2));
     longest();
 }
 

@@ -1,7 +1,6 @@
 // What the cases print.
-use crate::slices::behind;
-use crate::slices::byte;
-use crate::slices::front;
+use guards::byte;
+use guards::front_bytes;
 use printing::TEXT_BYTES;
 use printing::print_matches;
 
@@ -22,7 +21,7 @@ pub fn number(n: usize) {
 pub fn print(names: &[u8], store: &[u8], twig: &[u8]) {
     let mut text = [0u8; TEXT_BYTES];
     let n = print_matches(names, store, twig, &mut text);
-    say(front(&text, n));
+    say(front_bytes(&text, n));
 }
 
 // How many lines a text has.
@@ -50,13 +49,21 @@ fn last_line(text: &[u8]) -> usize {
     0
 }
 
+// The bytes of a text from a place on; all where it is not there.
+fn behind(text: &[u8], at: usize) -> &[u8] {
+    if text.len() < at {
+        return text;
+    }
+    &text[at..]
+}
+
 // The size of a text, its first bytes and its last line.
 fn outline(text: &[u8], first: usize) {
     number(text.len());
     say(b" bytes in ");
     number(line_count(text));
     say(b" lines\n");
-    say(front(text, first));
+    say(front_bytes(text, first));
     say(b"..\n");
     say(behind(text, last_line(text)));
 }
@@ -65,5 +72,5 @@ fn outline(text: &[u8], first: usize) {
 pub fn print_long(names: &[u8], store: &[u8], twig: &[u8], first: usize) {
     let mut text = [0u8; TEXT_BYTES];
     let n = print_matches(names, store, twig, &mut text);
-    outline(front(&text, n), first);
+    outline(front_bytes(&text, n), first);
 }

@@ -5,14 +5,14 @@ use crate::garage::with_store;
 use crate::garage::with_word;
 use crate::made::MOST;
 use crate::made::RECORD_BYTES;
-use crate::slices::front;
+use guards::front_bytes;
 use records::Store;
 
 // The example's records, and zeros behind them.
 fn cut(text: &[u8], len: usize) {
     let mut store = [0u8; MOST * RECORD_BYTES];
     put_store(&mut store);
-    with_store(text, front(&store, len));
+    with_store(text, front_bytes(&store, len));
 }
 
 // Empty, cut short and over-long.

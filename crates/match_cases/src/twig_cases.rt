@@ -1,6 +1,6 @@
 // Twigs by their length and record by record: 4 to 8.
 use crate::garage::with_twig;
-use crate::slices::front;
+use guards::front_bytes;
 
 // Nine records: the garage, a vehicle, its test, an axle with a curve, a curve, an axle; a vehicle; and a note of the first.
 const NINE: [u8; 36] = [
@@ -45,12 +45,12 @@ const NINE: [u8; 36] = [
 // Empty, cut short and over-long.
 fn lengths() {
     with_twig(b"no twig.rec: ", &[]);
-    with_twig(b"twig.rec of one byte: ", front(&NINE, 1));
-    with_twig(b"3 bytes: ", front(&NINE, 3));
-    with_twig(b"5 bytes: ", front(&NINE, 5));
-    with_twig(b"31 bytes: ", front(&NINE, 31));
-    with_twig(b"eight records:\n", front(&NINE, 32));
-    with_twig(b"33 bytes: ", front(&NINE, 33));
+    with_twig(b"twig.rec of one byte: ", front_bytes(&NINE, 1));
+    with_twig(b"3 bytes: ", front_bytes(&NINE, 3));
+    with_twig(b"5 bytes: ", front_bytes(&NINE, 5));
+    with_twig(b"31 bytes: ", front_bytes(&NINE, 31));
+    with_twig(b"eight records:\n", front_bytes(&NINE, 32));
+    with_twig(b"33 bytes: ", front_bytes(&NINE, 33));
     with_twig(b"nine records: ", &NINE);
 }
 
