@@ -43,17 +43,7 @@ fn parent_at(p: usize, start: usize, count: usize) -> usize {
     std::num::wrapping_sub_usize(from, 1)
 }
 
-// The payload of an entry: the mark of a row, or with each entry one more, and the name.
-fn payload(row: &[usize], before: usize, name: u8) -> [u16; 2] {
-    let step = (before % 256) as u16;
-    let mark = half(row, 6);
-    if number(row, 7) == 0 {
-        return [mark, name as u16];
-    }
-    [std::num::wrapping_add_u16(mark, step), name as u16]
-}
-
-// An entry of a parent and a name, if the row has them; the count after it.
+// An entry of a parent and a name, if the row has them; the count after it. Its payload is the row's mark, one more with each entry if the step is not 0, and the name.
 fn add_one(row: &[usize], at: usize, words: &mut [u16], start: usize, count: usize) -> usize {
     if number(row, 0) <= at {
         return count;
@@ -62,14 +52,19 @@ fn add_one(row: &[usize], at: usize, words: &mut [u16], start: usize, count: usi
     let up = parent_at(number(row, at), start, count);
     copy(&mut parent, label_of(words, up));
     let name = octet(row, sum(at, 1));
-    let before = std::num::wrapping_sub_usize(count, start);
+    let step = if number(row, 7) == 0 {
+        0
+    } else {
+        (std::num::wrapping_sub_usize(count, start) % 65536) as u16
+    };
+    let mark = std::num::wrapping_add_u16(half(row, 6), step);
     let e = enter(
         table(number(row, 2)),
         front_mut(words, number(row, 3)),
         count,
         &parent,
         name,
-        payload(row, before, name),
+        [mark, name as u16],
     );
     let label = e.label;
     if number(row, 1) == ALL {

@@ -36,6 +36,11 @@ const AXLE: u8 = 3;
 
 const CURVE: u8 = 4;
 
+// The small store's words and its records.
+const SMALL_WORDS: usize = 180;
+
+const SMALL_COUNT: usize = 9;
+
 // The words of two labels, and of four.
 const TWO_LABELS: usize = 32;
 
@@ -76,13 +81,13 @@ pub fn items(row: &[usize], words: &[u16]) {
     say_number(count_of(&out, OLD));
 }
 
-// The axles and the curves of the store, two of each.
+// The axles and the curves of the small store, two of each.
 fn streams(words: &[u16]) -> [u16; FOUR_LABELS] {
     let mut s = [0u16; FOUR_LABELS];
     let t = table(0);
-    let store = front(words, 180);
-    cut(t, store, 9, AXLE, &mut s);
-    cut(t, store, 9, CURVE, behind_mut(&mut s, TWO_LABELS));
+    let store = front(words, SMALL_WORDS);
+    cut(t, store, SMALL_COUNT, AXLE, &mut s);
+    cut(t, store, SMALL_COUNT, CURVE, behind_mut(&mut s, TWO_LABELS));
     s
 }
 
