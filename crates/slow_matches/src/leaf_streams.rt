@@ -5,8 +5,6 @@ use crate::label_words::prefix;
 use crate::label_words::put_label;
 use crate::label_words::start;
 use crate::random::once_in;
-use crate::slices::behind_mut;
-use crate::slices::put_number;
 use crate::slices::sum;
 use crate::slices::total;
 use crate::tables::table;
@@ -15,6 +13,8 @@ use crate::twig_parts::leaves_before;
 use crate::twig_parts::name;
 use crate::twig_parts::size_of;
 use cutting::cut;
+use guards::behind_mut;
+use guards::put_number;
 
 // The words of the streams of eight leaves, each of 240 labels.
 pub const BUFFER_WORDS: usize = 30720;

@@ -1,7 +1,7 @@
 // The names of labels, read from the rows of a table.
 use crate::label_words::depth;
-use crate::slices::byte;
 use crate::twig_parts::ANY;
+use guards::byte;
 use names::FILLER;
 use names::MAX_NAME;
 use names::Table;

@@ -6,9 +6,6 @@ use crate::leaf_streams::cut_streams;
 use crate::random::roll;
 use crate::slices::count_if;
 use crate::slices::count_up;
-use crate::slices::front;
-use crate::slices::front_bytes;
-use crate::slices::front_numbers;
 use crate::slices::sum;
 use crate::slices::total;
 use crate::tables::TABLES;
@@ -24,6 +21,9 @@ use crate::twig_parts::begin;
 use crate::twig_parts::leaves_before;
 use crate::twig_parts::size_of;
 use crate::twig_parts::wildcard_branches;
+use guards::front;
+use guards::front_bytes;
+use guards::front_numbers;
 
 // How many stores there are, and how many twigs are asked of each: as many of each size.
 const STORES: usize = 120;

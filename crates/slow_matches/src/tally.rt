@@ -1,7 +1,7 @@
 // How many pairs there are of each kind, counted and printed.
-use crate::slices::number;
 use crate::slices::sum;
 use crate::twig_parts::MAX_RECORDS;
+use guards::number;
 
 // The kinds, and where each is counted.
 pub const PAIRS: usize = 0;

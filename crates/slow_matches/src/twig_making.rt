@@ -3,9 +3,6 @@ use crate::label_words::is_below;
 use crate::label_words::is_child;
 use crate::random::once_in;
 use crate::random::roll;
-use crate::slices::number;
-use crate::slices::put_byte;
-use crate::slices::put_number;
 use crate::slices::sum;
 use crate::trees::record_label;
 use crate::trees::record_name;
@@ -18,6 +15,9 @@ use crate::twig_parts::NAME;
 use crate::twig_parts::NO_PARENT;
 use crate::twig_parts::PARENT;
 use crate::twig_parts::begin;
+use guards::number;
+use guards::put_byte;
+use guards::put_number;
 
 // How often a record below another is tried for.
 const TRIES: usize = 40;
