@@ -38,27 +38,30 @@ pub fn number(numbers: &[usize], at: usize) -> usize
 pub fn put_word(words: &mut [u16], at: usize, x: u16)
     ensures { λ u. ⌜ now (words .exit) ≡ set (now (words .entry)) at x ⌝ }
 {
-    if at < words.len() {
-        words[at] = x;
+    if words.len() <= at {
+        return;
     }
+    words[at] = x;
 }
 
 // A byte put at a place.
 pub fn put_byte(bytes: &mut [u8], at: usize, x: u8)
     ensures { λ u. ⌜ now (bytes .exit) ≡ set (now (bytes .entry)) at x ⌝ }
 {
-    if at < bytes.len() {
-        bytes[at] = x;
+    if bytes.len() <= at {
+        return;
     }
+    bytes[at] = x;
 }
 
 // A number put at a place.
 pub fn put_number(numbers: &mut [usize], at: usize, x: usize)
     ensures { λ u. ⌜ now (numbers .exit) ≡ set (now (numbers .entry)) at x ⌝ }
 {
-    if at < numbers.len() {
-        numbers[at] = x;
+    if numbers.len() <= at {
+        return;
     }
+    numbers[at] = x;
 }
 
 // The first words of a slice; all where there are fewer.

@@ -8,7 +8,7 @@ pub put-byte-spec : {M : Type 1} → statement M
 put-byte-spec =
     tie.close
     (tie.spec
+    (λ c. search (left-alone, needs))
     (λ c. search needs)
     (λ c. search needs)
-    (λ c. search needs)
-    (λ c. search (left-alone, needs)))
+    (λ c. search needs))

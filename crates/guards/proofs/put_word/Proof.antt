@@ -8,8 +8,8 @@ pub put-word-spec : {M : Type 1} → statement M
 put-word-spec =
     tie.close
     (tie.spec
+    (λ c. search (left-alone, needs))
     (λ c. search needs)
     (λ c. search needs)
     (λ c. search needs)
-    (λ c. search needs)
-    (λ c. search (left-alone, needs)))
+    (λ c. search needs))
