@@ -14,21 +14,22 @@ use guards::front;
 use guards::front_bytes;
 use guards::number;
 use guards::put_byte;
-use labels::FollowsAnswer;
-use labels::KinshipAnswer;
-use labels::Number;
+use kinship::FollowsAnswer;
+use kinship::KinshipAnswer;
+use kinship::follows;
+use kinship::kinship;
 use labels::check_label;
-use labels::follows;
-use labels::kinship;
-use labels::next_number;
 use name_files::bench_table;
+use name_files::check_names;
 use name_files::read_names;
 use names::Place;
 use names::TABLE_SIZE;
-use names::check_table;
 use names::clue_len;
 use names::place_of;
+use numbers::Number;
+use numbers::next_number;
 use refusals::Refusal;
+use table_checks::check_table;
 use twigs::check_twig;
 
 // The words of a label in a row, and more than that.
@@ -90,7 +91,7 @@ pub fn given(row: &[usize]) {
     give(number(row, 1), number(row, 2), next);
 }
 
-// file LENGTH FILLING BYTE..: a child-name file read over the bench's table, and how long the clue of name 0 is then.
+// file LENGTH FILLING BYTE..: the check of a child-name file, and how long the clue of name 0 is in the table read from it.
 pub fn file(row: &[usize]) {
     let filling = octet(row, 2);
     let mut bytes = [filling; MANY_BYTES];
@@ -100,10 +101,10 @@ pub fn file(row: &[usize]) {
         i += 1;
         put_byte(&mut bytes, i - 3, octet(row, i));
     }
-    let mut t = bench_table();
-    verdict(read_names(front_bytes(&bytes, number(row, 1)), &mut t));
+    let file = front_bytes(&bytes, number(row, 1));
+    verdict(check_names(file));
     say(b", clue of 0: ");
-    say_number(clue_len(&t, 0));
+    say_number(clue_len(&read_names(file), 0));
 }
 
 // table TABLE ROW PLACE X: the check of a table with one number changed.

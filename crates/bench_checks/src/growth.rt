@@ -9,13 +9,13 @@ use crate::show::dotted;
 use crate::show::say;
 use crate::show::say_number;
 use crate::stores::count_of;
+use deletions::delete;
+use entries::enter;
 use guards::copy;
 use guards::front;
 use guards::front_mut;
 use guards::number;
 use name_files::bench_table;
-use store::delete;
-use store::enter;
 
 // What is shown of the entries: the last label, the first and the last, or all of them.
 const LAST: usize = 1;

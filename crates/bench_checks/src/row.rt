@@ -50,7 +50,7 @@ pub fn table(kind: usize) -> Table {
         t[0][0] = 64;
     }
     if kind == 2 {
-        read_names(&[0, 0, 0, 1], &mut t);
+        t = read_names(&[0, 0, 0, 1]);
     }
     if kind == 3 {
         t[0] = all_names();

@@ -9,6 +9,8 @@ use crate::show::dotted;
 use crate::show::say;
 use crate::show::say_number;
 use crate::show::verdict;
+use deletions::delete;
+use entries::enter;
 use guards::behind;
 use guards::copy;
 use guards::front;
@@ -16,12 +18,10 @@ use guards::front_mut;
 use guards::number;
 use guards::put_word;
 use guards::word;
+use new_stores::new_store;
 use records::Store;
 use refusals::Verdict;
 use soundness::check_store;
-use store::delete;
-use store::enter;
-use store::new_store;
 
 // The words of 4,098 records.
 pub const LARGEST: usize = 81960;
