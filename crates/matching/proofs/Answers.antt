@@ -30,8 +30,10 @@ use Rattle.plans.proofs.Plans as plans
 use Rattle.reading.specs.Reads.{Reads}
 use Rattle.places.specs.Settings.{Sharing}
 use Rattle.pruning.specs.Prunes.{Prunable, Pruned, Matchless}
-use Rattle.matching.specs.Searches.{inputCheck, Searchable, Workspace, Within, found, answered}
-use Rattle.matching.proofs.Inputs.{input-names, input-twig, input-counts}
+use Rattle.searching.specs.Searches.{Searchable, found, answered}
+use Rattle.input_checks.specs.Inputs.{inputCheck}
+use Rattle.input_checks.proofs.Inputs.{input-names, input-twig, input-counts}
+use Rattle.matching.specs.Workspaces.{Workspace, Within}
 use Rattle.matching.proofs.Streams.{all-streamed}
 use Rattle.matching.proofs.Found.{searchable, found-matches, none-listed}
 

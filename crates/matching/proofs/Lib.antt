@@ -1,7 +1,5 @@
--- The input's checks, streams and what is found over them, then the answers.
-pub mod Inputs
+-- Streams and what is found over them, then the answers.
 pub mod Streams
 pub mod Found
-pub mod Fillings
 pub mod Answers
 pub mod Sizes
