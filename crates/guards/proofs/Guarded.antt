@@ -1,7 +1,7 @@
 -- What the guards answer where a place is not there, and what a part of a slice is.
 use Prim.Native.Nat.{ℕ, _-_, _<_, _≤_}
 use mathlib.Core.Path.{_≡_, sym, ap, _∙_}
-use mathlib.Core.List.{List, _++_}
+use mathlib.Core.List.{List}
 use lib.ListN.{length, getD, set, take, drop, drop-of-length-le, length-take}
 use lib.ListN.{List·getD-eq-default}
 use lib.Seq.{take-all, set-out}

@@ -50,7 +50,7 @@ module _ (cl : Clues) (root : ℕ) (t : Twig) (good : GoodTwig t) (streams : Lis
       omega (arith, ap length e, within-length (getD m i []) (getD m j []) w)
 
   -- 16 words for each label
-  match-words : length (matchWords (matches cl root t streams)) ≡ labelSize * length t * length (matches cl root t streams)
+  pub match-words : length (matchWords (matches cl root t streams)) ≡ labelSize * length t * length (matches cl root t streams)
   match-words = length-matchWords (length t) (matches cl root t streams) (λ m k.
       let h = matches-iff cl root t streams good m .0 k in (h .whole, match-short m h))
 

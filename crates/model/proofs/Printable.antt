@@ -23,12 +23,11 @@ use Rattle.labelling.proofs.Lists.{nowhere, either-part}
 use Rattle.labelling.proofs.LabelWords.{GoodLabel}
 use Rattle.labelling.proofs.Refusals.{first-none, first-some, first-rest, first-here, first-last, first-passed, last-passed, taken}
 use Rattle.patterns.proofs.TwigBytes.{accepted-twig}
-use Rattle.patterns.proofs.Matches.{matches-iff}
-use Rattle.patterns.proofs.MatchWords.{length-labelsWords, length-matchWords}
+use Rattle.patterns.proofs.MatchWords.{length-labelsWords}
 use Rattle.storage.proofs.SoundStore.{SoundElements}
 use Rattle.storage.proofs.StreamWords.{for-stream, counted}
 use Rattle.model.proofs.Streams.{streams-asked}
-use Rattle.model.proofs.Demand2.{match-short, store-elements}
+use Rattle.model.proofs.Demand2.{match-words, store-elements}
 use Rattle.model.proofs.FileStores.{storeFile-iff, storeFile-sized, buffer-iff}
 
 -- The streams of some records, of which a leaf has a name and an inner record none.
@@ -102,9 +101,7 @@ module _ (names store twig : List ℕ) (sized : StoreLength (length store)) (sou
       let ss = streams t (fileElements store) in
       let cl = fileClues names in
       let root = rootOf (fileWords store) in
-      let good = accepted-twig twig asked in
-      let words = length-matchWords (length t) (matches cl root t ss) (λ m k.
-      let h = matches-iff cl root t ss good m .0 k in (h .whole, match-short cl root t good ss (streams-labelled t) m h)) in
+      let words = match-words cl root t (accepted-twig twig asked) ss (streams-labelled t) in
       ap (λ n. 2 * n) (words ∙ mul-assoc labelSize (length t) (length (matches cl root t ss)))
 
 -- by cases on which check of a list refuses: the first, or one of the others

@@ -18,7 +18,7 @@ use Rattle.storage.specs.Cutting as model
 use Rattle.labelling.proofs.Refusals.{first-rest, first-last}
 use Rattle.storage.proofs.SoundStore.{SoundElements}
 use Rattle.storage.proofs.StreamWords.{for-stream}
-use Rattle.labelling.proofs.Outputs.{listed-refusal, listed-whole}
+use Rattle.labelling.proofs.Outputs.{listed-refusal, listed-whole, room-iff}
 use Rattle.model.proofs.Demand2.{store-elements}
 use Rattle.refusals.specs.Answers.{verdictOf, filled, listingOf}
 use Rattle.refusals.specs.declared.Listing.{Listing}
@@ -26,7 +26,7 @@ use Rattle.refusals.specs.declared.Refusal as declared
 use Rattle.refusals.specs.declared.Verdict.the-variants as verdict
 use Rattle.refusals.proofs.Verdicts.{passed-none}
 use Rattle.printing.specs.Streams.{Accepted}
-use Rattle.printing.proofs.Rooms.{room-iff, room-refused}
+use Rattle.printing.proofs.Rooms.{room-refused}
 
 -- the stream of a name in the records of a store
 abbrev pub streamIn : List ℕ → ℕ → ℕ → List Label

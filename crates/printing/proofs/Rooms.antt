@@ -2,30 +2,25 @@
 -- Assumes nothing.
 use Prim.Native.Nat.{ℕ, _*_, _<_, _≤_}
 use mathlib.Core.Path.{_≡_, sym, ap, _∙_}
-use mathlib.Core.Logic.{_↔_, by-cases}
+use mathlib.Core.Logic.{by-cases}
 use mathlib.Core.List.{List}
-use mathlib.Core.Option.{none, Option·none-ne-some}
+use mathlib.Core.Option.{Option·none-ne-some}
 use native.Mathlib.Decide.{decLt}
 use native.Mathlib.Omega.{arith}
 use lib.ListN.{length, take, drop, length-append}
-use lib.Dec.{leb→le, le→leb}
+use lib.Dec.{leb→le}
 use borrow.Author.Tests.{le-leb, lt-leb}
 use Rattle.labelling.specs.Basics.{over}
 use Rattle.labelling.specs.Refusals.{refuse, check, shortOutput}
 use Rattle.labelling.specs.Outputs.{roomCheck}
 use Rattle.model.specs.Printing.{bufferCheck}
-use Rattle.labelling.proofs.Refusals.{check-iff, check-failed}
-use Rattle.labelling.proofs.Outputs.{take-over}
+use Rattle.labelling.proofs.Refusals.{check-failed}
+use Rattle.labelling.proofs.Outputs.{take-over, room-iff}
 use Rattle.refusals.specs.Answers.{verdictOf}
 use Rattle.refusals.specs.declared.Refusal as declared
 use Rattle.refusals.specs.declared.Verdict.{Verdict}
 use Rattle.refusals.specs.declared.Verdict.the-variants as verdict
 use Rattle.refusals.proofs.Verdicts.{refused-some}
-
--- words have room in an output exactly if they are no more
-pub room-iff : (ws out : List ℕ) → roomCheck ws out ≡ none ↔ (length ws ≤ length out)
-unfolding roomCheck
-room-iff ws out = check-iff _ shortOutput 0 (leb→le (length ws) (length out), le→leb (length ws) (length out))
 
 -- more are refused
 pub room-failed : (ws out : List ℕ) → length out < length ws → roomCheck ws out ≡ refuse shortOutput 0

@@ -33,7 +33,8 @@ use Rattle.twigs.proofs.Nodes.{twig-few}
 use Rattle.twigs.specs.Answers.{nodeOf}
 use Rattle.printing.specs.Streams.{Accepted, Cut, allLabels}
 use Rattle.printing.proofs.Leaves.{leavesTo, leaves-leaf, leaves-inner, leaves-split, laid-append, labelsWords-laid, laid-size}
-use Rattle.printing.proofs.Rooms.{room-iff, room-failed}
+use Rattle.labelling.proofs.Outputs.{room-iff}
+use Rattle.printing.proofs.Rooms.{room-failed}
 use Rattle.printing.proofs.Cuts.{streamIn, stream-short, cut-over, cut-fitted, cut-done}
 use Rattle.printing.proofs.Buffers.{Poured, poured-none, poured-next}
 

@@ -31,7 +31,8 @@ use Rattle.refusals.specs.declared.Verdict.the-variants as verdict
 use Rattle.refusals.proofs.Verdicts.{passed-none}
 use Rattle.printing.specs.Texts.{Prints, told, printedBy, listPrinted, storeMatches, bufferChecks}
 use Rattle.printing.specs.Streams.{Accepted, Cut, Streamed, allLabels, streamLens}
-use Rattle.printing.proofs.Rooms.{room-iff, room-buffer, taken, held}
+use Rattle.labelling.proofs.Outputs.{room-iff}
+use Rattle.printing.proofs.Rooms.{room-buffer, taken, held}
 use Rattle.printing.proofs.Cuts.{streamIn, elements-sound}
 use Rattle.printing.proofs.Streams.{all-laid, all-size}
 use Rattle.printing.proofs.Printed.{prints-as, printed-on, printed-refused}
