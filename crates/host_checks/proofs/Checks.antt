@@ -7,7 +7,7 @@ use Rattle.labelling.specs.Names.{tableCheck}
 use Rattle.refusals.specs.Answers.{verdictOf}
 use Rattle.refusals.specs.declared.Verdict.{Verdict}
 use Rattle.soundness.specs.Rules.{storeCheck}
-use Rattle.name_files.specs.Rows.{tableIn}
+use Rattle.table_bytes.specs.Rows.{tableIn}
 use Rattle.answers.specs.Reports.{Report, reportBy, reportOf}
 use Rattle.answers.proofs.Verdicts.{told-check}
 

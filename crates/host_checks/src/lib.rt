@@ -1,11 +1,11 @@
 // The checks of a table, a store and a twig for a host program: the refusal's number and place, and no value.
 use answers::tell;
-use name_files::table_in;
+use table_bytes::table_in;
 ghost use mathlib.Core.Path.{_≡_};
 ghost use Rattle.labelling.specs.Names.{tableCheck};
 ghost use Rattle.patterns.specs.Twigs.{twigCheck};
 ghost use Rattle.soundness.specs.Rules.{storeCheck};
-ghost use Rattle.name_files.specs.Rows.{tableIn};
+ghost use Rattle.table_bytes.specs.Rows.{tableIn};
 ghost use Rattle.answers.specs.Reports.{report, reportOf};
 
 // The check of a table: 22.

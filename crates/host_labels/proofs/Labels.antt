@@ -17,7 +17,7 @@ use Rattle.kinship.specs.declared.FollowsAnswer.{FollowsAnswer}
 use Rattle.kinship.specs.declared.FollowsAnswer.the-variants as follows
 use Rattle.decoding.specs.Answers.{decodingOf}
 use Rattle.decoding.specs.declared.Decoding.{Decoding}
-use Rattle.name_files.specs.Rows.{tableIn}
+use Rattle.table_bytes.specs.Rows.{tableIn}
 use Rattle.answers.specs.Reports.{fitted, Report, reportBy, reportOf}
 use Rattle.answers.proofs.Verdicts.{told-check}
 use Rattle.host_labels.specs.Calls.{kinshipReport, followsReport}

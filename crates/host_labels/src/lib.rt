@@ -3,12 +3,12 @@ use answers::tell;
 use answers::tell_names;
 use kinship::FollowsAnswer;
 use kinship::KinshipAnswer;
-use name_files::table_in;
 use refusals::Verdict;
+use table_bytes::table_in;
 ghost use mathlib.Core.Path.{_≡_};
 ghost use mathlib.Core.Bool.{cond};
 ghost use Rattle.labelling.specs.Labels.{decodeCall, kinshipCall, followsCall};
-ghost use Rattle.name_files.specs.Rows.{tableIn};
+ghost use Rattle.table_bytes.specs.Rows.{tableIn};
 ghost use Rattle.answers.specs.Reports.{fitted, report, reportOf};
 ghost use Rattle.host_labels.specs.Calls.{kinshipReport, followsReport};
 

@@ -8,7 +8,7 @@ use Rattle.patterns.specs.Matching.{matchCall}
 use Rattle.storage.specs.Cutting as cutting
 use Rattle.refusals.specs.Answers.{Filled, filled, listingOf}
 use Rattle.refusals.specs.declared.Listing.{Listing}
-use Rattle.name_files.specs.Rows.{tableIn}
+use Rattle.table_bytes.specs.Rows.{tableIn}
 use Rattle.answers.specs.Reports.{Report, reportBy}
 use Rattle.answers.proofs.Verdicts.{told-check}
 use Rattle.host_lists.specs.Calls.{listingReport}

@@ -1,10 +1,10 @@
 // Lists for a host program: the stream of a name, and the matches of a twig. The value is how many there are.
 use answers::tell;
-use name_files::table_in;
+use table_bytes::table_in;
 ghost use mathlib.Core.Path.{_≡_};
 ghost use Rattle.patterns.specs.Matching.{matchCall};
 ghost use Rattle.storage.specs.Cutting as cutting;
-ghost use Rattle.name_files.specs.Rows.{tableIn};
+ghost use Rattle.table_bytes.specs.Rows.{tableIn};
 ghost use Rattle.answers.specs.Reports.{report};
 ghost use Rattle.host_lists.specs.Calls.{listingReport};
 

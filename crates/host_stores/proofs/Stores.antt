@@ -8,7 +8,7 @@ use Rattle.changes.specs.Answers.{Changed, changed, changeOf}
 use Rattle.entries.specs.Answers.{Entered, entered, entryOf}
 use Rattle.changes.specs.declared.Change.{Change}
 use Rattle.entries.specs.declared.Entry.{Entry}
-use Rattle.name_files.specs.Rows.{tableIn}
+use Rattle.table_bytes.specs.Rows.{tableIn}
 use Rattle.answers.specs.Reports.{fitted, Report, reportBy}
 use Rattle.answers.proofs.Verdicts.{told-check}
 use Rattle.host_stores.specs.Calls.{changeReport}

@@ -1,10 +1,10 @@
 // Stores for a host program: a new one, entry and deletion. The value is the count of records in use.
 use answers::tell;
 use answers::tell_label;
-use name_files::table_in;
+use table_bytes::table_in;
 ghost use mathlib.Core.Path.{_≡_};
 ghost use Rattle.storage.specs.Updates as updates;
-ghost use Rattle.name_files.specs.Rows.{tableIn};
+ghost use Rattle.table_bytes.specs.Rows.{tableIn};
 ghost use Rattle.answers.specs.Reports.{fitted, report};
 ghost use Rattle.host_stores.specs.Calls.{changeReport};
 

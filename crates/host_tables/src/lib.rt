@@ -1,10 +1,10 @@
 // Tables for a host program: one read from a child-name file, and the bench's own. A table is 4,096 bytes, row after row; a slice of another length is
 // refused by 22 and left alone.
 use answers::tell;
-use name_files::TABLE_BYTES;
-use name_files::put_table;
 use refusals::Refusal;
 use refusals::refuse;
+use table_bytes::TABLE_BYTES;
+use table_bytes::put_table;
 ghost use mathlib.Core.Path.{_≡_};
 ghost use Rattle.answers.specs.Reports.{report};
 ghost use Rattle.host_tables.specs.Calls.{readReport, tableRead, benchNumber, benchBytes};

@@ -1,4 +1,2 @@
 pub mod Reading
 pub mod Answers
-pub mod Rows
-pub mod Bytes

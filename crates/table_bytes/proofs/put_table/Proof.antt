@@ -1,12 +1,12 @@
--- `name_files::put_table` meets its contract: the rows before the index are written.
+-- `table_bytes::put_table` meets its contract: the rows before the index are written.
 -- From the laws of `Bytes` on what is written so far.
 use borrow.Author.Needs.{needs}
 use mathlib.Core.Path.{_≡_}
 use Prim.Native.Nat.{_-_, _≤_}
 use lib.ListN.{length}
-use Rattle.name_files.proofs.Bytes.{Put, rows-none, rows-put, rows-done}
-use Rattle.name_files.proofs.put_table.Statement.{statement}
-use Rattle.name_files.proofs.put_table.Tie as tie
+use Rattle.table_bytes.proofs.Bytes.{Put, rows-none, rows-put, rows-done}
+use Rattle.table_bytes.proofs.put_table.Statement.{statement}
+use Rattle.table_bytes.proofs.put_table.Tie as tie
 
 abbrev Inv-loop : tie.InvT-loop
 Inv-loop table bytes₀ rows p₀ bytes p = (p ≤ length rows) × (length bytes ≡ length bytes₀) × Put rows bytes₀ p bytes

@@ -10,7 +10,7 @@ use lib.Seq.{paste-suc, take-all, length-take-le}
 use Rattle.labelling.specs.Basics.{upTo}
 use Rattle.labelling.specs.Limits.{tableSize, filler}
 use Rattle.labelling.proofs.Ranges.{length-upTo, map-upTo}
-use Rattle.name_files.specs.Rows.{rowIn, rowsIn}
+use Rattle.table_bytes.specs.Rows.{rowIn, rowsIn}
 
 -- of sixty-four places the first k are copied, the others hold what they held
 abbrev pub Copied : {A : Type 0} → List A → A → ℕ → List A → Type 0

@@ -1,14 +1,14 @@
--- `name_files::table_of` meets its contract: the rows before the loop's index are copied.
+-- `table_bytes::table_of` meets its contract: the rows before the loop's index are copied.
 -- From the laws of `Rows` on what is copied so far.
 use Prim.Native.Nat.{_≤_, _-_}
 use mathlib.Core.Path.{_≡_}
 use borrow.Author.Needs.{needs}
 use lib.ListN.{length, replicate}
 use Rattle.labelling.specs.Limits.{tableSize, filler}
-use Rattle.name_files.specs.Rows.{rowsIn}
-use Rattle.name_files.proofs.Rows.{Copied, row-long, rows-more, rows-all}
-use Rattle.name_files.proofs.table_of.Statement.{statement}
-use Rattle.name_files.proofs.table_of.Tie as tie
+use Rattle.table_bytes.specs.Rows.{rowsIn}
+use Rattle.table_bytes.proofs.Rows.{Copied, row-long, rows-more, rows-all}
+use Rattle.table_bytes.proofs.table_of.Statement.{statement}
+use Rattle.table_bytes.proofs.table_of.Tie as tie
 
 abbrev Inv-loop : tie.InvT-loop
 Inv-loop bytes table₀ p₀ table p = (p ≤ tableSize) × (length table ≡ tableSize) × Copied (rowsIn bytes) (replicate tableSize filler) p table

@@ -1,13 +1,13 @@
--- `name_files::row_of` meets its contract: the bytes before the loop's index are copied.
+-- `table_bytes::row_of` meets its contract: the bytes before the loop's index are copied.
 -- From the laws of `Rows` on what is copied so far.
 use Prim.Native.Nat.{_≤_, _-_}
 use mathlib.Core.Path.{_≡_}
 use borrow.Author.Needs.{needs}
 use lib.ListN.{length}
 use Rattle.labelling.specs.Limits.{tableSize, filler}
-use Rattle.name_files.proofs.Rows.{Copied, row-more, row-all}
-use Rattle.name_files.proofs.row_of.Statement.{statement}
-use Rattle.name_files.proofs.row_of.Tie as tie
+use Rattle.table_bytes.proofs.Rows.{Copied, row-more, row-all}
+use Rattle.table_bytes.proofs.row_of.Statement.{statement}
+use Rattle.table_bytes.proofs.row_of.Tie as tie
 
 abbrev Inv-loop : tie.InvT-loop
 Inv-loop bytes row₀ k₀ row k = (k ≤ length bytes) × (length row ≡ tableSize) × Copied bytes filler k row

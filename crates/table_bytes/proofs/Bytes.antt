@@ -16,7 +16,7 @@ use Rattle.labelling.specs.Names.{tableCheck, goodRow, namesOf, isName}
 use Rattle.labelling.proofs.Tests.{is-true, is-false, eqb-alike}
 use Rattle.words.specs.Writing.{written}
 use Rattle.words.proofs.Writing.{written-over, written-none, written-after, written-paste}
-use Rattle.name_files.specs.Rows.{rowsIn, tableIn, tornRows}
+use Rattle.table_bytes.specs.Rows.{rowsIn, tableIn, tornRows}
 
 module _ (bytes : List ℕ) where
   -- bytes that are no table

@@ -1,13 +1,13 @@
--- `name_files::put_row` meets its contract: the bytes before the index are written.
+-- `table_bytes::put_row` meets its contract: the bytes before the index are written.
 -- From the laws of `Bytes` on what is written so far.
 use borrow.Author.Needs.{needs}
 use mathlib.Core.Path.{_≡_}
 use Prim.Native.Nat.{_-_, _≤_}
 use lib.ListN.{length}
 use lib.Seq.{paste}
-use Rattle.name_files.proofs.Bytes.{row-none, row-byte, row-bytes}
-use Rattle.name_files.proofs.put_row.Statement.{statement}
-use Rattle.name_files.proofs.put_row.Tie as tie
+use Rattle.table_bytes.proofs.Bytes.{row-none, row-byte, row-bytes}
+use Rattle.table_bytes.proofs.put_row.Statement.{statement}
+use Rattle.table_bytes.proofs.put_row.Tie as tie
 
 abbrev Inv-loop : tie.InvT-loop
 Inv-loop row bytes₀ at k₀ bytes k = (k ≤ length row) × (length bytes ≡ length bytes₀) × (bytes ≡ paste bytes₀ at row k)

@@ -1,8 +1,0 @@
--- `name_files::table_in` meets its contract: bytes that are a table, and others.
-use borrow.Author.Needs.{needs}
-use Rattle.name_files.proofs.Bytes.{table-torn, table-whole}
-use Rattle.name_files.proofs.table_in.Statement.{statement}
-use Rattle.name_files.proofs.table_in.Tie as tie
-
-pub table-in-spec : {M : Type 1} → statement M
-table-in-spec = tie.close (tie.spec (λ c. search (table-torn, needs)) (λ c κs. search needs) (λ c. search (table-whole, needs)))
