@@ -17,7 +17,7 @@ use Rattle.patterns.specs.Matches.{labelsWords}
 use Rattle.patterns.proofs.MatchWords.{length-labelsWords}
 use Rattle.patterns.proofs.StreamChecks.{length-wanted}
 use Rattle.storage.proofs.StreamWords.{laid}
-use Rattle.twigs.proofs.Leaves.{wanted-at, wanted-from}
+use Rattle.leaves.proofs.Leaves.{wanted-at, wanted-from}
 
 -- the leaves of two lists of records
 leafNames-append : (rs ss : List (Option ℕ)) → leafNames (rs ++ ss) ≡ leafNames rs ++ leafNames ss

@@ -1,6 +1,8 @@
 // What the program that prints matches prints, for the bytes of its three files.
 use cutting::cut;
 use labels::Label;
+use leaves::is_leaf;
+use leaves::leaf_count;
 use matching::match_twig;
 use name_files::check_names;
 use name_files::read_names;
@@ -14,8 +16,6 @@ use soundness::store_check;
 use texts::put_matches;
 use texts::put_refusal;
 use twigs::check_twig;
-use twigs::is_leaf;
-use twigs::leaf_count;
 use twigs::node_at;
 use twigs::node_count;
 ghost use mathlib.Core.Path.{_≡_};
