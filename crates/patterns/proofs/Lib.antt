@@ -1,5 +1,6 @@
 -- Twigs and their matches.
 pub mod TwigBytes
+pub mod TwigRefusals
 pub mod Asking
 pub mod Prefixes
 pub mod Closure

@@ -18,7 +18,7 @@ use Rattle.labelling.proofs.Tests.{eqb-alike, and-facts, or-facts}
 use Rattle.labelling.proofs.Refusals.{check-iff, first-iff, last-iff, first-some, first-here, first-next, first-place, last-place}
 
 -- a parent fits exactly if record 0 has none and another has an earlier one
-parentFits-iff : (i p : ℕ) → T (parentFits i p) ↔ ((i ≡ 0 → p ≡ noParent) × (0 < i → p < i))
+pub parentFits-iff : (i p : ℕ) → T (parentFits i p) ↔ ((i ≡ 0 → p ≡ noParent) × (0 < i → p < i))
 unfolding parentFits
 parentFits-iff zero p = (λ t. (λ e. eqb-alike p noParent .0 t, λ k. absurd (omega arith)), λ h. eqb-alike p noParent .1 (h .0 refl))
 parentFits-iff (suc i) p = rw eqb·suc-zero
@@ -56,7 +56,7 @@ FactsAt m bytes j =
     NodeFacts m (getD bytes (nodeSize * j) 0) (getD bytes (nodeSize * j + 1) 0) (getD bytes (nodeSize * j + 2) 0) (getD bytes (nodeSize * j + 3) 0)
 
 -- the facts of a later record are those of the bytes after the first
-facts-later : (i p e n z : ℕ) (bytes : List ℕ) (j : ℕ) → FactsAt (i + suc j) (p ∷ e ∷ n ∷ z ∷ bytes) (suc j) ≡ FactsAt (suc i + j) bytes j
+pub facts-later : (i p e n z : ℕ) (bytes : List ℕ) (j : ℕ) → FactsAt (i + suc j) (p ∷ e ∷ n ∷ z ∷ bytes) (suc j) ≡ FactsAt (suc i + j) bytes j
 facts-later i p e n z bytes j = simp (unary-clauses, suc-add)
 
 -- records are accepted exactly if the facts of each hold
@@ -83,7 +83,7 @@ pub record TwigFacts (bytes : List ℕ) : Type 0 where
   pub records : (i : ℕ) → nodeSize * i < length bytes → FactsAt i bytes i
 
 -- a length is a twig's exactly if it is not 0, at most 32 and a multiple of 4
-length-iff : (n : ℕ) → T (ltb 0 n && leb n maxTwig && eqb (n % nodeSize) 0) ↔ (((0 < n) × (n ≤ maxTwig)) × (n % nodeSize ≡ 0))
+pub length-iff : (n : ℕ) → T (ltb 0 n && leb n maxTwig && eqb (n % nodeSize) 0) ↔ (((0 < n) × (n ≤ maxTwig)) × (n % nodeSize ≡ 0))
 length-iff n = and-facts (ltb 0 n && leb n maxTwig) (eqb (n % nodeSize) 0)
     (and-facts (ltb 0 n) (leb n maxTwig) (ltb→lt 0 n, lt→ltb 0 n) (leb→le n maxTwig, le→leb n maxTwig)) (eqb-alike (n % nodeSize) 0)
 
@@ -101,7 +101,7 @@ twigCheck-iff bytes = Iff·trans (first-iff _ _ (check-iff _ twigLength 0 (lengt
 )
 
 -- a record is refused at its own number
-nodeCheck-place : (i p e n z : ℕ) (r : Refusal) → nodeCheck i p e n z ≡ some r → r .place ≡ i
+pub nodeCheck-place : (i p e n z : ℕ) (r : Refusal) → nodeCheck i p e n z ≡ some r → r .place ≡ i
 unfolding nodeCheck nameCheck
 nodeCheck-place i p e n z r =
     first-place _ _ i _ r (first-place _ _ i _ r (first-place _ _ i _ r (last-place _ _ i r)))
