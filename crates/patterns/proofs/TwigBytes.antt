@@ -1,21 +1,21 @@
--- The bytes of a twig: which are accepted, which record a refusal names, and what is read; accepted bytes give a good twig.
-use mathlib.Core.Path.{_≡_, refl, sym, _∙_}
-use mathlib.Core.Logic.{_↔_, _⊎_, ⊎-elim, Iff·trans}
+-- The bytes of a twig: which are accepted, and what is read; accepted bytes give a good twig.
+use mathlib.Core.Path.{_≡_, refl}
+use mathlib.Core.Logic.{_↔_, _⊎_, Iff·trans}
 use mathlib.Core.Bool.{_&&_}
 use mathlib.Core.List.{List, [], _∷_}
-use mathlib.Core.Option.{none, some, Option·none-ne-some}
+use mathlib.Core.Option.{none, some}
 use Prim.Native.Nat.{ℕ, zero, suc, _+_, _*_, _%_, _≤_, _<_}
 use native.Mathlib.Nat.{zero-add, add-zero, suc-add}
 use native.Mathlib.Numerals.{unary-clauses}
 use native.Mathlib.Omega.{arith}
-use lib.ListN.{length, getD, take}
+use lib.ListN.{length, getD}
 use lib.Dec.{T, leb, ltb, eqb, leb→le, le→leb, ltb→lt, lt→ltb, eqb·suc-zero}
 use Rattle.labelling.specs.Limits.{nodeSize, maxTwig, maxName, anyName, noParent}
 use Rattle.labelling.specs.Refusals.{Refusal, twigLength, twigParent, twigEdge, nameAsked, twigEnd}
 use Rattle.labelling.specs.Names.{isName}
 use Rattle.patterns.specs.Twigs.{GoodTwig, childEdge, descendantEdge, nodeAt, readTwig, parentFits, nameCheck, nodeCheck, nodesCheck, twigCheck}
 use Rattle.labelling.proofs.Tests.{eqb-alike, and-facts, or-facts}
-use Rattle.labelling.proofs.Refusals.{check-iff, first-iff, last-iff, first-some, first-here, first-next, first-place, last-place}
+use Rattle.labelling.proofs.Refusals.{check-iff, first-iff, last-iff, first-place, last-place}
 
 -- a parent fits exactly if record 0 has none and another has an earlier one
 pub parentFits-iff : (i p : ℕ) → T (parentFits i p) ↔ ((i ≡ 0 → p ≡ noParent) × (0 < i → p < i))
@@ -105,52 +105,6 @@ pub nodeCheck-place : (i p e n z : ℕ) (r : Refusal) → nodeCheck i p e n z �
 unfolding nodeCheck nameCheck
 nodeCheck-place i p e n z r =
     first-place _ _ i _ r (first-place _ _ i _ r (first-place _ _ i _ r (last-place _ _ i r)))
-
--- the record at which records are refused: those before it are accepted, and up to it they are refused alike
-record Fault (i : ℕ) (bytes : List ℕ) (r : Refusal) : Type 0 where
-  node : ℕ
-  inside : nodeSize * node < length bytes
-  placed : r .place ≡ i + node
-  accepted : nodesCheck i (take (nodeSize * node) bytes) ≡ none
-  refused : nodesCheck i (take (nodeSize * suc node) bytes) ≡ some r
-
--- the bytes up to a later record
-take-later : (p e n z : ℕ) (bytes : List ℕ) (j : ℕ) → take (nodeSize * suc j) (p ∷ e ∷ n ∷ z ∷ bytes) ≡ p ∷ e ∷ n ∷ z ∷ take (nodeSize * j) bytes
-take-later p e n z bytes j = simp unary-clauses
-
--- records that are refused have such a record
-fault-of : (i : ℕ) (bytes : List ℕ) (r : Refusal) → nodesCheck i bytes ≡ some r → Fault i bytes r
-unfolding nodesCheck
-fault-of i [] r h = absurd (Option·none-ne-some r h)
-fault-of i (p ∷ []) r h = absurd (Option·none-ne-some r h)
-fault-of i (p ∷ e ∷ []) r h = absurd (Option·none-ne-some r h)
-fault-of i (p ∷ e ∷ n ∷ []) r h = absurd (Option·none-ne-some r h)
-fault-of i (p ∷ e ∷ n ∷ z ∷ bytes) r h =
-    ⊎-elim now (λ k. later (k .0) (fault-of (suc i) bytes r (sym (first-next _ _ (k .0)) ∙ h))) (first-some _ _ r h)
-  where
-    now : nodeCheck i p e n z ≡ some r → Fault i (p ∷ e ∷ n ∷ z ∷ bytes) r
-    now d = record {
-      node = 0;
-      inside = omega arith;
-      placed = omega (arith, nodeCheck-place i p e n z r d);
-      accepted = refl;
-      refused = first-here r _ _ d;
-    }
-
-    later : nodeCheck i p e n z ≡ none → Fault (suc i) bytes r → Fault i (p ∷ e ∷ n ∷ z ∷ bytes) r
-    later d f = record {
-      node = suc (f .node);
-      inside = omega (arith, f .inside);
-      placed = omega (arith, f .placed);
-      accepted = rw take-later (first-next _ _ d ∙ f .accepted);
-      refused = rw take-later (first-next _ _ d ∙ f .refused);
-    }
-
--- a refusal names the first record that is at fault
-pub nodesCheck-first : (i : ℕ) (bytes : List ℕ) (r : Refusal) → nodesCheck i bytes ≡ some r →
-    (j : ℕ) × (nodeSize * j < length bytes) × (r .place ≡ i + j) ×
-    (nodesCheck i (take (nodeSize * j) bytes) ≡ none) × (nodesCheck i (take (nodeSize * suc j) bytes) ≡ some r)
-nodesCheck-first i bytes r h = let f = fault-of i bytes r h in (f .node, f .inside, f .placed, f .accepted, f .refused)
 
 -- a twig has a record for every four bytes
 pub length-readTwig : (bytes : List ℕ) → (4 * length (readTwig bytes) ≤ length bytes) × (length bytes < 4 * length (readTwig bytes) + 4)
