@@ -2,31 +2,26 @@
 use mathlib.Core.Path.{_≡_, refl, ap, sym, _∙_}
 use mathlib.Core.List.{List, [], _∷_, _++_}
 use mathlib.Core.Option.{none}
-use Prim.Native.Nat.{ℕ, zero, suc, _≤_, _*_}
+use Prim.Native.Nat.{ℕ, zero, suc}
 use native.Mathlib.Omega.{arith}
-use lib.ListN.{length, getD, length-append}
-use lib.Dec.{T}
-use Rattle.labelling.specs.Basics.{_∈_}
-use Rattle.labelling.specs.Limits.{labelSize, maxDepth}
+use lib.ListN.{length}
 use Rattle.labelling.specs.Names.{Clues, tableCheck, cluesOf}
-use Rattle.labelling.specs.Labels.{Label, within, above}
-use Rattle.patterns.specs.Twigs.{Twig, twigCheck, GoodTwig, readTwig, wanted}
-use Rattle.patterns.specs.Matches.{Match, matchWords, IsMatch, matches}
+use Rattle.labelling.specs.Labels.{Label, above}
+use Rattle.patterns.specs.Twigs.{twigCheck, readTwig, wanted}
 use Rattle.storage.specs.Store.{rootOf, sizeCheck, soundCheck, elements, records}
 use Rattle.patterns.specs.Matching.{streamsCheck, dealt, matchCall, matchesOf}
 use Rattle.model.specs.Trees.{namesTo}
 use Rattle.model.specs.Demand2.{Demand2, ListHolds, StoreHolds}
-use Rattle.labelling.proofs.Lists.{member-at, for-cons}
-use Rattle.labelling.proofs.LabelOrder.{within-iff, above-snoc}
+use Rattle.labelling.proofs.Lists.{for-cons}
+use Rattle.labelling.proofs.LabelOrder.{above-snoc}
 use Rattle.labelling.proofs.Decode.{path-length}
 use Rattle.patterns.proofs.TwigBytes.{accepted-twig}
-use Rattle.patterns.proofs.Matches.{matches-ascending, leaf-below, matches-iff}
+use Rattle.patterns.proofs.Matches.{matches-ascending, matches-iff}
 use Rattle.patterns.proofs.Paths.{path-solutions}
-use Rattle.labelling.proofs.LabelWords.{GoodLabel}
-use Rattle.patterns.proofs.MatchWords.{length-matchWords}
+use Rattle.patterns.proofs.MatchSizes.{match-words}
 use Rattle.storage.proofs.Sizes.{size-iff, length-elements-read}
 use Rattle.storage.proofs.Faults.{sound-check}
-use Rattle.storage.proofs.SoundStore.{SoundElements, sound-elements, sound-root, sound-parents}
+use Rattle.storage.proofs.SoundStore.{store-elements, sound-root, sound-parents}
 use Rattle.patterns.proofs.StreamChecks.{streams-accepted, streams-labels}
 use Rattle.storage.proofs.StreamWords.{streams-sound}
 use Rattle.storage.proofs.Listings.{Stored, cut-listed, match-listed}
@@ -34,25 +29,6 @@ use Rattle.labelling.proofs.Outputs.{listed-whole, listed-refusal}
 use Rattle.model.proofs.Good.{snoc-root}
 use Rattle.model.proofs.Trees.{Has, Rooted, ancestor, decode-names}
 use Rattle.model.proofs.Embeddings.{full-ascending, full-embeddings}
-
--- an ancestor's label is no longer than a descendant's
-within-length : (up low : Label) → T (within up low) → length up ≤ length low
-within-length up low h = let (rest, e) = within-iff up low .0 h in omega (arith, length-append up rest, ap length e)
-
-module _ (cl : Clues) (root : ℕ) (t : Twig) (good : GoodTwig t) (streams : List (List Label))
-    (labelled : (i : ℕ) (l : Label) → l ∈ getD streams i [] → GoodLabel l) where
-  -- every label of a match has at most 15 components, since a leaf's label below it has
-  pub match-short : (m : Match) → IsMatch cl root t streams m → (l : Label) → l ∈ m → length l ≤ maxDepth
-  match-short m h l k =
-      let (i, p, e) = member-at [] m l .0 k in
-      let (j, q, leaf, w) = leaf-below t good m (h .hung) i (omega (arith, h .whole)) in
-      let short = labelled j (getD m j []) (h .leaf j q leaf) .shallow in
-      omega (arith, ap length e, within-length (getD m i []) (getD m j []) w)
-
-  -- 16 words for each label
-  pub match-words : length (matchWords (matches cl root t streams)) ≡ labelSize * length t * length (matches cl root t streams)
-  match-words = length-matchWords (length t) (matches cl root t streams) (λ m k.
-      let h = matches-iff cl root t streams good m .0 k in (h .whole, match-short m h))
 
 -- what holds of the list of matches over accepted streams
 list-holds : (cl : Clues) (root : ℕ) (bytes counts buffer : List ℕ) → twigCheck bytes ≡ none → streamsCheck cl root (readTwig bytes) counts buffer ≡ none →
@@ -67,13 +43,6 @@ list-holds cl root bytes counts buffer twig taken =
       paths = path-solutions cl root t streams good;
       words = match-words cl root t good streams (streams-labels cl root t counts buffer taken);
     }
-
--- an accepted store has sound elements
-pub store-elements : (cl : Clues) (ws : List ℕ) (count : ℕ) → sizeCheck (length ws) count ≡ none → soundCheck cl count ws ≡ none →
-    SoundElements cl (rootOf ws) (elements count ws)
-unfolding rootOf
-store-elements cl ws zero size sound = absurd (omega (arith, size-iff (length ws) 0 .0 size .used))
-store-elements cl ws (suc n) size sound = sound-elements cl n ws (sound-check cl (suc n) ws .0 sound)
 
 -- right above every element of an accepted store but record 0's stands another
 store-rooted : (cl : Clues) (ws : List ℕ) (count : ℕ) → sizeCheck (length ws) count ≡ none → soundCheck cl count ws ≡ none → Rooted (elements count ws)

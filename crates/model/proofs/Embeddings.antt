@@ -16,9 +16,9 @@ use Rattle.model.specs.Trees.{Embedding}
 use Rattle.labelling.proofs.Tests.{and-iff, decide}
 use Rattle.patterns.proofs.Matches.{leaf-below, matches-ascending, matches-iff}
 use Rattle.storage.proofs.SoundStore.{SoundElements}
+use Rattle.storage.proofs.AskedLabels.{Asked, streams-asked}
 use Rattle.storage.proofs.StreamWords.{streams-sound}
 use Rattle.model.proofs.Trees.{Rooted, ancestor}
-use Rattle.model.proofs.Streams.{Asked, streams-asked}
 
 module _ {cl : Clues} {root : ℕ} {es : List Element} (sound : SoundElements cl root es) (t : Twig) where
   -- the full list is strictly ascending

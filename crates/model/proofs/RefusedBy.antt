@@ -19,7 +19,7 @@ use Rattle.patterns.specs.Matching.{streamsCheck, matchRefusal}
 use Rattle.storage.specs.Store.{Element, sizeCheck, soundCheck}
 use Rattle.storage.specs.Updates.{parentCheck, spaceCheck, rootStaysCheck, foundCheck, newStoreRefusal, entryRefusal, deletionRefusal}
 use Rattle.storage.specs.Cutting.{cutRefusal}
-use Rattle.model.specs.Printing.{storeFileCheck, bufferCheck, printRefusal}
+use Rattle.printouts.specs.Printing.{storeFileCheck, bufferCheck, printRefusal}
 use Rattle.model.specs.RefusedBy.{RefusedBy, placedNumbers, fileNumbers, decodingNumbers, labelNumbers, newStoreNumbers, entryNumbers, deletionNumbers, cutNumbers, matchNumbers, printNumbers}
 use Rattle.labelling.proofs.Tests.{and-iff, eqb-alike}
 use Rattle.labelling.proofs.Once.{stands-iff}

@@ -12,7 +12,7 @@ use Rattle.labelling.specs.Labels.{decodeCall, kinshipCall, followsCall}
 use Rattle.storage.specs.Updates.{newStore, enter, delete}
 use Rattle.storage.specs.Cutting.{cut}
 use Rattle.patterns.specs.Matching.{matchCall}
-use Rattle.model.specs.Printing.{printRefusal}
+use Rattle.printouts.specs.Printing.{printRefusal}
 use Rattle.model.specs.RefusedBy.{RefusedBy, fileNumbers, decodingNumbers, labelNumbers, newStoreNumbers, entryNumbers, deletionNumbers, cutNumbers, matchNumbers, printNumbers}
 
 pub record Demand1 : Type 0 where

@@ -10,6 +10,7 @@ pub mod Matches
 pub mod Paths
 pub mod Deltas
 pub mod MatchWords
+pub mod MatchSizes
 -- Streams in a buffer.
 pub mod Buffers
 pub mod StreamChecks

@@ -16,10 +16,9 @@ use Rattle.storage.specs.Store.{elements, rootOf}
 use Rattle.labelling.specs.Outputs as outputs
 use Rattle.storage.specs.Cutting as model
 use Rattle.labelling.proofs.Refusals.{first-rest, first-last}
-use Rattle.storage.proofs.SoundStore.{SoundElements}
+use Rattle.storage.proofs.SoundStore.{SoundElements, store-elements}
 use Rattle.storage.proofs.StreamWords.{for-stream}
 use Rattle.labelling.proofs.Outputs.{listed-refusal, listed-whole, room-iff}
-use Rattle.model.proofs.Demand2.{store-elements}
 use Rattle.refusals.specs.Answers.{verdictOf, filled, listingOf}
 use Rattle.refusals.specs.declared.Listing.{Listing}
 use Rattle.refusals.specs.declared.Refusal as declared

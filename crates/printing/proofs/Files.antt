@@ -12,9 +12,9 @@ use lib.ListN.{length, getD, take, drop, set}
 use Rattle.labelling.specs.Basics.{over}
 use Rattle.labelling.specs.Limits.{maxBytes, recordSize}
 use Rattle.labelling.specs.Refusals.{refuse, storeSize}
-use Rattle.model.specs.Printing.{storeFileCheck, fileWords}
+use Rattle.printouts.specs.Printing.{storeFileCheck, fileWords}
 use Rattle.labelling.proofs.Refusals.{check-passed, check-failed}
-use Rattle.model.proofs.FileStores.{storeFile-iff, length-fileWords}
+use Rattle.printouts.proofs.FileStores.{storeFile-iff, length-fileWords}
 use Rattle.refusals.specs.Answers.{verdictOf}
 use Rattle.refusals.specs.declared.Verdict.{Verdict}
 use Rattle.refusals.specs.declared.Verdict.the-variants as verdict

@@ -13,14 +13,14 @@ use Rattle.patterns.specs.Twigs.{readTwig, wanted}
 use Rattle.patterns.specs.Matches.{Match, matchWords}
 use Rattle.labelling.specs.Outputs.{roomCheck}
 use Rattle.patterns.specs.Matching as model
-use Rattle.model.specs.Printing.{matchesText, refusalText, bufferCheck}
+use Rattle.printouts.specs.Printing.{matchesText, refusalText, bufferCheck}
 use Rattle.labelling.proofs.Refusals.{first-rest, first-last}
 use Rattle.patterns.proofs.TwigBytes.{accepted-twig}
 use Rattle.patterns.proofs.Matches.{matches-iff}
 use Rattle.patterns.proofs.StreamChecks.{streams-labels}
 use Rattle.labelling.proofs.Outputs.{listed-refusal, listed-whole}
-use Rattle.model.proofs.FileStores.{buffer-iff}
-use Rattle.model.proofs.Demand2.{match-short}
+use Rattle.printouts.proofs.FileStores.{buffer-iff}
+use Rattle.patterns.proofs.MatchSizes.{match-short}
 use Rattle.refusals.specs.Answers.{verdictOf, filled, listingOf}
 use Rattle.refusals.specs.declared.Listing.{Listing}
 use Rattle.refusals.specs.declared.Refusal as declared

@@ -9,7 +9,7 @@ use lib.ListN.{length}
 use Rattle.labelling.specs.Basics.{elim?, over}
 use Rattle.labelling.specs.Refusals.{Refusal, first}
 use Rattle.patterns.specs.Matches.{Match}
-use Rattle.model.specs.Printing.{matchesText, refusalText}
+use Rattle.printouts.specs.Printing.{matchesText, refusalText}
 use Rattle.labelling.proofs.Refusals.{first-rest, first-here}
 use Rattle.refusals.specs.Answers.{verdictOf, refusalOf}
 use Rattle.refusals.specs.declared.Refusal as declared

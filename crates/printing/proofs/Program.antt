@@ -10,9 +10,9 @@ use Rattle.labelling.specs.Basics.{over}
 use Rattle.labelling.specs.Limits.{recordSize}
 use Rattle.labelling.specs.Names.{tableCheck, fileCheck, readNames}
 use Rattle.storage.specs.Store.{sizeCheck}
-use Rattle.model.specs.Printing.{refusalText, fileWords, storeFileCheck, fileCount, fileElements, fileMatches, printRefusal, printed}
+use Rattle.printouts.specs.Printing.{refusalText, fileWords, storeFileCheck, fileCount, fileElements, fileMatches, printRefusal, printed}
 use Rattle.labelling.proofs.NameFiles.{file-table}
-use Rattle.model.proofs.FileStores.{storeFile-iff, storeFile-sized, length-fileWords}
+use Rattle.printouts.proofs.FileStores.{storeFile-iff, storeFile-sized, length-fileWords}
 use Rattle.refusals.specs.Answers.{verdictOf}
 use Rattle.refusals.specs.declared.Refusal as declared
 use Rattle.refusals.specs.declared.Verdict.{Verdict}

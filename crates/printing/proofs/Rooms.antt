@@ -13,7 +13,7 @@ use borrow.Author.Tests.{le-leb, lt-leb}
 use Rattle.labelling.specs.Basics.{over}
 use Rattle.labelling.specs.Refusals.{refuse, check, shortOutput}
 use Rattle.labelling.specs.Outputs.{roomCheck}
-use Rattle.model.specs.Printing.{bufferCheck}
+use Rattle.printouts.specs.Printing.{bufferCheck}
 use Rattle.labelling.proofs.Refusals.{check-failed}
 use Rattle.labelling.proofs.Outputs.{take-over, room-iff}
 use Rattle.refusals.specs.Answers.{verdictOf}

@@ -8,7 +8,7 @@ use lib.ListN.{length}
 use Rattle.labelling.specs.Names.{cluesOf, tableCheck}
 use Rattle.patterns.specs.Twigs.{twigCheck}
 use Rattle.storage.specs.Store.{sizeCheck, soundCheck}
-use Rattle.model.specs.Printing.{refusalText}
+use Rattle.printouts.specs.Printing.{refusalText}
 use Rattle.labelling.proofs.Refusals.{first-rest, first-last}
 use Rattle.refusals.specs.Answers.{verdictOf}
 use Rattle.refusals.specs.declared.Refusal as declared

@@ -20,7 +20,7 @@ use Rattle.storage.specs.Store.{readElement, elements, rootOf}
 use Rattle.labelling.specs.Outputs.{roomCheck}
 use Rattle.storage.specs.Cutting.{fullList}
 use Rattle.patterns.specs.Matching.{matchesOf}
-use Rattle.model.specs.Printing.{refusalText, bufferCheck}
+use Rattle.printouts.specs.Printing.{refusalText, bufferCheck}
 use Rattle.labelling.proofs.Refusals.{check-passed}
 use Rattle.storage.proofs.Sizes.{size-iff, length-elements-read}
 use Rattle.storage.proofs.StreamWords.{dealt-wanted, streams-laid, counted, laid}

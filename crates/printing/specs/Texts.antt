@@ -11,7 +11,7 @@ use Rattle.patterns.specs.Twigs.{readTwig, twigCheck}
 use Rattle.patterns.specs.Matches.{Match, labelsWords, matchWords}
 use Rattle.storage.specs.Store.{elements, soundCheck, rootOf}
 use Rattle.storage.specs.Cutting.{streams, fullList}
-use Rattle.model.specs.Printing.{matchesText, refusalText, bufferCheck}
+use Rattle.printouts.specs.Printing.{matchesText, refusalText, bufferCheck}
 use Rattle.refusals.specs.declared.Refusal as declared
 
 -- bytes printed: they stand at the start of a text, and the answer is how many they are

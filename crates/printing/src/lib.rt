@@ -29,7 +29,7 @@ ghost use Rattle.patterns.specs.Matches.{labelsWords};
 ghost use Rattle.storage.specs.Store.{sizeCheck};
 ghost use Rattle.labelling.specs.Outputs.{roomCheck};
 ghost use Rattle.patterns.specs.Matching.{matchesOf};
-ghost use Rattle.model.specs.Printing as model;
+ghost use Rattle.printouts.specs.Printing as model;
 ghost use Rattle.refusals.specs.Answers.{verdictOf};
 ghost use Rattle.printing.specs.Texts.{Prints, told, printedBy, listPrinted, storeMatches, bufferChecks, storeChecks};
 ghost use Rattle.printing.specs.Streams.{Accepted, Cut, Streamed, allLabels};

@@ -11,6 +11,7 @@ pub mod Parents
 pub mod Changes
 pub mod Updates
 -- Streams cut from a store.
+pub mod AskedLabels
 pub mod StreamWords
 pub mod Listings
 -- Examples.

@@ -12,7 +12,7 @@ use Rattle.labelling.specs.Basics.{_∈_, all, last, Ascending, none-left, one-
 use Rattle.labelling.specs.Limits.{maxName, labelSize, recordSize}
 use Rattle.labelling.specs.Names.{Clues, led}
 use Rattle.labelling.specs.Labels.{Label, before, above, nameAt, endOf, decode, labelOf}
-use Rattle.storage.specs.Store.{Element, readElement, records, elements, laidOut, broken, fault, soundCheck, layoutRule, orderRule, parentRule, nameRule, lastRule, nextRule}
+use Rattle.storage.specs.Store.{Element, readElement, records, elements, laidOut, broken, fault, rootOf, sizeCheck, soundCheck, layoutRule, orderRule, parentRule, nameRule, lastRule, nextRule}
 use Rattle.labelling.proofs.Lists.{here, there, nowhere, for-cons}
 use Rattle.labelling.proofs.LabelOrder.{before-order, above-last, above-before, precedes-iff}
 use Rattle.labelling.proofs.Decode.{name-child}
@@ -21,6 +21,7 @@ use Rattle.storage.proofs.Finding.{has-first, first-mem}
 use Rattle.storage.proofs.Rules.{Closed, layout-deep, broken-none}
 use Rattle.storage.proofs.Relaid.{laid-depth, sound-laid}
 use Rattle.storage.proofs.Words.{Fit}
+use Rattle.storage.proofs.Sizes.{size-iff}
 use Rattle.storage.proofs.Faults.{fault-cons, sound-check}
 
 -- the order of elements by their labels
@@ -218,3 +219,10 @@ pub sound-fit : (cl : Clues) (ws : List ℕ) (count : ℕ) → soundCheck cl cou
 unfolding elements records
 sound-fit cl ws zero sound e m = absurd (nowhere m)
 sound-fit cl ws (suc n) sound e m = sound-elements cl n ws (sound-check cl (suc n) ws .0 sound) .labelled e m .shallow
+
+-- an accepted store has sound elements
+pub store-elements : (cl : Clues) (ws : List ℕ) (count : ℕ) → sizeCheck (length ws) count ≡ none → soundCheck cl count ws ≡ none →
+    SoundElements cl (rootOf ws) (elements count ws)
+unfolding rootOf
+store-elements cl ws zero size sound = absurd (omega (arith, size-iff (length ws) 0 .0 size .used))
+store-elements cl ws (suc n) size sound = sound-elements cl n ws (sound-check cl (suc n) ws .0 sound)

@@ -8,8 +8,8 @@ use native.Mathlib.Decide.{decLt}
 use native.Mathlib.Omega.{arith}
 use lib.ListN.{length, length-append, set}
 use borrow.Author.Tests.{lt-ltb, le-ltb}
-use Rattle.model.specs.Printing.{zeroDigit, digits, decimal}
-use Rattle.model.proofs.Decimals.{decimal-some}
+use Rattle.printouts.specs.Printing.{zeroDigit, digits, decimal}
+use Rattle.printouts.proofs.Decimals.{decimal-some}
 use Rattle.words.specs.Writing.{written}
 use Rattle.words.proofs.Writing.{written-one, written-before}
 

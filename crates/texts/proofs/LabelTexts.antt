@@ -7,7 +7,7 @@ use native.Mathlib.Omega.{arith}
 use lib.ListN.{length, getD, drop, length-drop, drop-of-length-le}
 use lib.Seq.{getD-take, getD-drop, length-take-le}
 use Rattle.labelling.specs.Labels.{labelOf}
-use Rattle.model.specs.Printing.{text, decimal, labelText}
+use Rattle.printouts.specs.Printing.{text, decimal, labelText}
 use Rattle.labelling.proofs.Scans.{from-cons}
 use Rattle.words.specs.Writing.{written}
 use Rattle.texts.proofs.Texts.{Pending, pending-all, pending-from, pending-on, pending-none, pending-room, pending-more}

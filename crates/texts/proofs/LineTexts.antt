@@ -10,7 +10,7 @@ use lib.Seq.{getD-drop, drop-drop}
 use Rattle.labelling.specs.Limits.{maxDepth, labelSize}
 use Rattle.labelling.specs.Labels.{labelOf}
 use Rattle.patterns.specs.Matching.{labelsIn}
-use Rattle.model.specs.Printing.{text, labelText, matchLine}
+use Rattle.printouts.specs.Printing.{text, labelText, matchLine}
 use Rattle.labelling.proofs.LabelWords.{labelOf-take}
 use Rattle.labelling.proofs.Scans.{tail-is}
 use Rattle.words.specs.Writing.{written}

@@ -11,7 +11,7 @@ use lib.Seq.{drop-drop}
 use Rattle.labelling.specs.Basics.{joined, over}
 use Rattle.labelling.specs.Limits.{labelSize}
 use Rattle.patterns.specs.Matching.{labelsIn}
-use Rattle.model.specs.Printing.{matchLine, matchesText}
+use Rattle.printouts.specs.Printing.{matchLine, matchesText}
 use Rattle.labelling.proofs.Scans.{tail-is}
 use Rattle.words.specs.Writing.{written}
 use Rattle.texts.specs.Texts.{numberLine, matchesIn, Depths, labelRoom, countRoom}

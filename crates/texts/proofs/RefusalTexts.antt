@@ -7,7 +7,7 @@ use native.Mathlib.Omega.{arith}
 use lib.ListN.{length, length-append}
 use Rattle.labelling.specs.Basics.{over}
 use Rattle.labelling.specs.Refusals.{Refusal}
-use Rattle.model.specs.Printing.{text, decimal, refusalText}
+use Rattle.printouts.specs.Printing.{text, decimal, refusalText}
 use Rattle.words.specs.Writing.{written}
 use Rattle.texts.specs.Texts.{numberLine, refusalRoom}
 use Rattle.words.proofs.Writing.{written-over}

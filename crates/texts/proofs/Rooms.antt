@@ -12,7 +12,7 @@ use Rattle.labelling.specs.Limits.{maxDepth, labelSize}
 use Rattle.labelling.specs.Labels.{Label, labelOf}
 use Rattle.patterns.specs.Matches.{Match}
 use Rattle.patterns.specs.Matching.{labelsIn}
-use Rattle.model.specs.Printing.{text, decimal, joinedBy, labelText, matchLine, matchesText}
+use Rattle.printouts.specs.Printing.{text, decimal, joinedBy, labelText, matchLine, matchesText}
 use Rattle.labelling.proofs.Lists.{here, there, nowhere, for-cons, for-map, member-at}
 use Rattle.labelling.proofs.LabelWords.{labelOf-take}
 use Rattle.texts.specs.Texts.{numberLine, matchesIn, Depths, labelRoom, countRoom}

@@ -5,7 +5,7 @@ use lib.ListN.{getD, drop}
 use Rattle.labelling.specs.Limits.{maxDepth, labelSize}
 use Rattle.patterns.specs.Matches.{Match}
 use Rattle.patterns.specs.Matching.{labelsIn}
-use Rattle.model.specs.Printing.{text, decimal}
+use Rattle.printouts.specs.Printing.{text, decimal}
 
 -- a line with a number
 abbrev pub numberLine : ℕ → List ℕ

@@ -8,7 +8,7 @@ ghost use Rattle.labelling.specs.Basics.{over};
 ghost use Rattle.labelling.specs.Limits.{labelSize};
 ghost use Rattle.labelling.specs.Labels.{labelOf};
 ghost use Rattle.patterns.specs.Matching.{labelsIn};
-ghost use Rattle.model.specs.Printing.{zeroDigit, decimal, labelText, matchLine, matchesText, refusalText};
+ghost use Rattle.printouts.specs.Printing.{zeroDigit, decimal, labelText, matchLine, matchesText, refusalText};
 ghost use Rattle.texts.specs.Texts.{numberLine, matchesIn, Depths, labelRoom, countRoom, refusalRoom};
 ghost use Rattle.words.specs.Writing.{written};
 

@@ -6,7 +6,7 @@ use mathlib.Core.List.{_++_}
 use borrow.Author.Needs.{needs}
 use mir.Facts.{fits-widen}
 use lib.ListN.{length, take, drop}
-use Rattle.model.specs.Printing.{fileWords}
+use Rattle.printouts.specs.Printing.{fileWords}
 use Rattle.printing.proofs.Files.{byte-high, byte-pair, read-more, read-all}
 use Rattle.printing.proofs.read_words.Statement.{statement}
 use Rattle.printing.proofs.read_words.Tie as tie

@@ -4,7 +4,7 @@ use Prim.Native.Nat.{_+_}
 use mathlib.Core.Path.{_≡_}
 use borrow.Author.Needs.{needs, fits-under}
 use lib.ListN.{length}
-use Rattle.model.specs.Printing.{decimal}
+use Rattle.printouts.specs.Printing.{decimal}
 use Rattle.texts.proofs.Digits.{count-few, count-more, count-end}
 use Rattle.texts.proofs.digit_count.Statement.{statement}
 use Rattle.texts.proofs.digit_count.Tie as tie

@@ -4,7 +4,7 @@ use Prim.Native.Nat.{_+_, _≤_}
 use mathlib.Core.Path.{_≡_}
 use borrow.Author.Needs.{needs}
 use lib.ListN.{length}
-use Rattle.model.specs.Printing.{decimal}
+use Rattle.printouts.specs.Printing.{decimal}
 use Rattle.words.specs.Writing.{written}
 use Rattle.texts.proofs.Digits.{digit-some, digit-in, first-in, digit-before, digit-more, digit-end}
 use Rattle.texts.proofs.put_decimal.Statement.{statement}

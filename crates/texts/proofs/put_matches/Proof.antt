@@ -2,7 +2,7 @@
 -- Assumes nothing.
 use Prim.Native.Nat.{_-_, _^_, _≤_}
 use borrow.Author.Needs.{needs, fits-under}
-use Rattle.model.specs.Printing.{matchesText}
+use Rattle.printouts.specs.Printing.{matchesText}
 use Rattle.texts.specs.Texts.{matchesIn}
 use Rattle.texts.proofs.Texts.{Pending}
 use Rattle.texts.proofs.MatchTexts.{lines, matches-start, match-in, labels-fit, words-fit, bytes-fit, match-held, match-deep, line-room, line-put, count-room, matches-reach, matches-put}

@@ -1,7 +1,7 @@
 -- `texts::put_number` meets its contract: the digits are written, and the newline behind them.
 -- Assumes nothing.
 use borrow.Author.Needs.{needs}
-use Rattle.model.specs.Printing.{text}
+use Rattle.printouts.specs.Printing.{text}
 use Rattle.texts.proofs.Texts.{front-room, end-room, both-reach, both-put}
 use Rattle.texts.proofs.put_number.Statement.{statement}
 use Rattle.texts.proofs.put_number.Tie as tie

@@ -1,7 +1,7 @@
 -- `texts::put_refusal` meets its contract: its four parts are written in turn.
 -- Assumes nothing.
 use borrow.Author.Needs.{needs}
-use Rattle.model.specs.Printing.{text}
+use Rattle.printouts.specs.Printing.{text}
 use Rattle.texts.proofs.RefusalTexts.{number-room, at-room, place-room, refusal-reach, refusal-put}
 use Rattle.texts.proofs.put_refusal.Statement.{statement}
 use Rattle.texts.proofs.put_refusal.Tie as tie

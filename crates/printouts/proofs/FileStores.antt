@@ -12,9 +12,9 @@ use lib.Dec.{leb→le, le→leb, ltb, leb, eqb, ltb→lt, lt→ltb}
 use Rattle.labelling.specs.Limits.{maxBytes, recordSize}
 use Rattle.labelling.specs.Refusals.{shortOutput, storeSize}
 use Rattle.storage.specs.Store.{sizeCheck}
-use Rattle.model.specs.Printing.{bufferCheck, fileCount, fileWords, storeFileCheck}
-use Rattle.model.specs.Printable.{StoreLength}
-use Rattle.model.specs.Bench.{wordBytes}
+use Rattle.printouts.specs.Printing.{bufferCheck, fileCount, fileWords, storeFileCheck}
+use Rattle.printouts.specs.Printable.{StoreLength}
+use Rattle.printouts.specs.Examples.{wordBytes}
 use Rattle.labelling.proofs.Tests.{and-facts, eqb-alike}
 use Rattle.labelling.proofs.Refusals.{check-iff}
 use Rattle.storage.proofs.Sizes.{size-iff}

@@ -17,18 +17,18 @@ use Rattle.patterns.specs.Twigs.{Twig, readTwig, twigCheck, wanted, leafNames}
 use Rattle.patterns.specs.Matches.{matches, labelsWords, matchWords}
 use Rattle.storage.specs.Store.{rootOf}
 use Rattle.storage.specs.Cutting.{stream, streams, fullList}
-use Rattle.model.specs.Printing.{storeFileCheck, bufferCheck, fileElements, fileMatches, fileWords, printRefusal, printed}
-use Rattle.model.specs.Printable.{StoreLength, fileClues, fileSound, streamBytes, matchBytes, Printable, Unprintable, badNames, badLength, badRecord, badTwig, longStreams, longMatches, PrintHolds}
+use Rattle.printouts.specs.Printing.{storeFileCheck, bufferCheck, fileElements, fileMatches, fileWords, printRefusal, printed}
+use Rattle.printouts.specs.Printable.{StoreLength, fileClues, fileSound, streamBytes, matchBytes, Printable, Unprintable, badNames, badLength, badRecord, badTwig, longStreams, longMatches, PrintHolds}
 use Rattle.labelling.proofs.Lists.{nowhere, either-part}
 use Rattle.labelling.proofs.LabelWords.{GoodLabel}
 use Rattle.labelling.proofs.Refusals.{first-none, first-some, first-rest, first-here, first-last, first-passed, last-passed, taken}
 use Rattle.patterns.proofs.TwigBytes.{accepted-twig}
 use Rattle.patterns.proofs.MatchWords.{length-labelsWords}
-use Rattle.storage.proofs.SoundStore.{SoundElements}
+use Rattle.patterns.proofs.MatchSizes.{match-words}
+use Rattle.storage.proofs.SoundStore.{SoundElements, store-elements}
 use Rattle.storage.proofs.StreamWords.{for-stream, counted}
-use Rattle.model.proofs.Streams.{streams-asked}
-use Rattle.model.proofs.Demand2.{match-words, store-elements}
-use Rattle.model.proofs.FileStores.{storeFile-iff, storeFile-sized, buffer-iff}
+use Rattle.storage.proofs.AskedLabels.{streams-asked}
+use Rattle.printouts.proofs.FileStores.{storeFile-iff, storeFile-sized, buffer-iff}
 
 -- The streams of some records, of which a leaf has a name and an inner record none.
 module _ (s : ℕ → List Label) (short : (want : ℕ) (l : Label) → l ∈ s want → length l ≤ maxDepth) where

@@ -1,13 +1,9 @@
--- Every refusal at its corner, computed: its number and its place, and the order of the checks where two faults meet.
+-- The refusals of the program at their corners, and the order of its checks where two faults meet.
 use mathlib.Core.List.{List, [], _∷_}
 use lib.ListN.{replicate}
-use Rattle.labelling.specs.Basics.{joined}
-use Rattle.model.specs.Printing.{printed, text}
+use Rattle.printouts.specs.Printing.{printed, text}
 use Rattle.labelling.specs.Examples.{Check, is, benchFile}
-use Rattle.model.specs.Bench.{garageStore}
-use Rattle.labelling.specs.RefusalChecks.{fileRefusals, labelRefusals}
-use Rattle.patterns.specs.RefusalChecks.{twigRefusals, matchRefusals}
-use Rattle.storage.specs.RefusalChecks.{newStoreRefusals, entryRefusals, deletionRefusals, cutRefusals}
+use Rattle.printouts.specs.Examples.{garageStore}
 
 -- the program: 1 to 3, 18, 19, 4 to 8, 17
 unfoldable pub printRefusals : List Check
@@ -21,8 +17,3 @@ printRefusals =
     ∷ is (printed [] (replicate 40 0) (255 ∷ 0 ∷ 0 ∷ 0 ∷ [])) (text ".\n1\n")
     ∷ is (printed benchFile garageStore (255 ∷ 1 ∷ 1 ∷ 0 ∷ 0 ∷ 1 ∷ 3 ∷ 1 ∷ [])) (text "refused 8 at 1\n")
     ∷ []
-
--- all of them
-unfoldable pub refusalChecks : List Check
-refusalChecks =
-    joined (fileRefusals ∷ twigRefusals ∷ newStoreRefusals ∷ entryRefusals ∷ deletionRefusals ∷ labelRefusals ∷ cutRefusals ∷ matchRefusals ∷ printRefusals ∷ [])

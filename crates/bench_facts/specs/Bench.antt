@@ -1,18 +1,16 @@
--- The bench checks that the paper marks with a star, its printed example, and the examples of source document 004: what is computed, and what is expected.
+-- The bench checks that the paper marks with a star, and the examples of source document 004: what is computed, and what is expected.
 use mathlib.Core.List.{List, [], _∷_, _++_, map}
 use mathlib.Core.Option.{some}
-use Prim.Native.Nat.{ℕ, _+_, _/_, _%_}
+use Prim.Native.Nat.{ℕ, _+_}
 use lib.ListN.{replicate}
 use Rattle.labelling.specs.Basics.{elim?, last}
 use Rattle.labelling.specs.Names.{led, cluesOf, readNames}
 use Rattle.labelling.specs.Numbers.{number, articleNumber}
 use Rattle.labelling.specs.Labels.{Label, labelOf, labelWords, decodeCall, kinshipCall}
-use Rattle.storage.specs.Store.{storeWords}
 use Rattle.storage.specs.Updates.{Answer, newStore}
-use Rattle.model.specs.Printing.{text, joinedBy, labelText}
+use Rattle.printouts.specs.Printing.{text, joinedBy, labelText}
 use Rattle.model.specs.Book.{Call, entry, deletion, answer}
 use Rattle.labelling.specs.Examples.{shown, told, Check, is, benchTable}
-use Rattle.storage.specs.RefusalChecks.{element}
 
 -- The bench.
 
@@ -93,28 +91,3 @@ articleChecks =
     -- the corner: the article's formula gives the second book the first one's number again
     ∷ is (articleNumber 1 0 (some 0) ∷ number 1 0 (0 + 1) ∷ []) (0 ∷ 1 ∷ [])
     ∷ []
-
--- The printed example.
-
--- words in a file, little-endian
-unfoldable pub wordBytes : List ℕ → List ℕ
-wordBytes [] = []
-wordBytes (w ∷ ws) = w % 256 ∷ w / 256 ∷ wordBytes ws
-
--- its store: next numbers each one above the last child's component or 0
-unfoldable pub garageStore : List ℕ
-garageStore =
-    wordBytes (storeWords (
-    element [] 0 3
-    ∷ element (1 ∷ []) 1 1
-    ∷ element (1 ∷ 0 ∷ []) 2 5
-    ∷ element (1 ∷ 0 ∷ 1 ∷ []) 3 0
-    ∷ element (1 ∷ 0 ∷ 2 ∷ []) 4 0
-    ∷ element (1 ∷ 0 ∷ 4 ∷ []) 3 1
-    ∷ element (1 ∷ 0 ∷ 4 ∷ 0 ∷ []) 4 0
-    ∷ element (2 ∷ []) 1 0
-    ∷ []))
-
--- what is printed
-unfoldable pub garageText : List ℕ
-garageText = text "1 1.0.1 1.0.2\n1 1.0.1 1.0.4.0\n1 1.0.4 1.0.2\n1 1.0.4 1.0.4.0\n4\n"

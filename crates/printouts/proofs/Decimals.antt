@@ -9,7 +9,7 @@ use lib.ListN.{length, getD, length-append, List·getD-append}
 use lib.Dec.{eqb, eqb→eq}
 use Rattle.labelling.specs.Basics.{_∈_}
 use Rattle.labelling.specs.Labels.{Label}
-use Rattle.model.specs.Printing.{text, digits, decimal, joinedBy, labelText}
+use Rattle.printouts.specs.Printing.{text, digits, decimal, joinedBy, labelText}
 use Rattle.labelling.proofs.Tests.{passes, fails, le?, is-false}
 use Rattle.labelling.proofs.Lists.{here, there, only-one, either-part}
 
