@@ -21,7 +21,7 @@ use guards::word;
 use new_stores::new_store;
 use records::Store;
 use refusals::Verdict;
-use soundness::check_store;
+use store_checks::check_store;
 
 // The words of 4,098 records.
 pub const LARGEST: usize = 81960;

@@ -23,8 +23,8 @@ use Rattle.lookup.specs.declared.Found.{Found}
 use Rattle.lookup.specs.declared.Found.the-variants as found
 use Rattle.lookup.specs.Places.{placeAt, foundOf, Searchable}
 use Rattle.lookup.proofs.Places.{searchable}
-use Rattle.soundness.specs.Rules.{storeCheck}
-use Rattle.soundness.proofs.Stores.{store-refused, store-passed, store-sound, store-room}
+use Rattle.store_checks.specs.Stores.{storeCheck}
+use Rattle.store_checks.proofs.Stores.{store-refused, store-passed, store-sound, store-room}
 use Rattle.changes.specs.Answers.{callCheck}
 
 -- a label that was found

@@ -7,7 +7,7 @@ use Rattle.labelling.specs.Refusals.{Refusal, first}
 use Rattle.storage.specs.Store.{Element}
 use Rattle.storage.specs.Updates as model
 use Rattle.refusals.specs.Answers.{verdictOf}
-use Rattle.soundness.specs.Rules.{storeCheck}
+use Rattle.store_checks.specs.Stores.{storeCheck}
 use Rattle.changes.specs.declared.Change.{Change}
 
 -- the checks before those of a call's own: of table, sizes, records and label, 22, 18, 19, 15, in this order

@@ -3,7 +3,7 @@ use labels::check_label;
 use names::Table;
 use records::Store;
 use refusals::Verdict;
-use soundness::store_check;
+use store_checks::store_check;
 ghost use mathlib.Core.Path.{_≡_};
 ghost use lib.ListN.{length, getD};
 ghost use Rattle.labelling.specs.Limits.{recordSize};

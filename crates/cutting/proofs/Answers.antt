@@ -24,8 +24,8 @@ use Rattle.refusals.specs.declared.Refusal as declared
 use Rattle.refusals.specs.declared.Verdict.{Verdict}
 use Rattle.refusals.specs.declared.Verdict.the-variants as verdict
 use Rattle.refusals.proofs.Verdicts.{passed-none, refused-some}
-use Rattle.soundness.specs.Rules.{storeCheck}
-use Rattle.soundness.proofs.Stores.{store-refused, store-passed}
+use Rattle.store_checks.specs.Stores.{storeCheck}
+use Rattle.store_checks.proofs.Stores.{store-refused, store-passed}
 use Rattle.cutting.proofs.Sound.{store-laid, stream-words}
 
 -- there is room for the words of a stream

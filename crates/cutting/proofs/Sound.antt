@@ -25,8 +25,8 @@ use Rattle.refusals.specs.declared.Verdict.the-variants as verdict
 use Rattle.refusals.proofs.Verdicts.{passed-none}
 use Rattle.records.specs.Records.{recordAt}
 use Rattle.records.proofs.Elements.{record-first, record-behind, element-at}
-use Rattle.soundness.specs.Rules.{storeCheck}
-use Rattle.soundness.proofs.Stores.{store-sound, store-room}
+use Rattle.store_checks.specs.Stores.{storeCheck}
+use Rattle.store_checks.proofs.Stores.{store-sound, store-room}
 use Rattle.cutting.specs.Words.{Laid}
 
 -- sound records are laid out as they must be

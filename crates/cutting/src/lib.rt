@@ -6,7 +6,7 @@ use refusals::Listing;
 use refusals::Refusal;
 use refusals::Verdict;
 use refusals::refuse;
-use soundness::store_check;
+use store_checks::store_check;
 use twigs::asks;
 use twigs::is_asked;
 use words::put_label;

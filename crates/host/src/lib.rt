@@ -7,7 +7,7 @@ ghost use Rattle.patterns.specs.Twigs.{twigCheck};
 ghost use Rattle.patterns.specs.Matching.{matchCall};
 ghost use Rattle.storage.specs.Updates as updates;
 ghost use Rattle.storage.specs.Cutting as cutting;
-ghost use Rattle.soundness.specs.Rules.{storeCheck};
+ghost use Rattle.store_checks.specs.Stores.{storeCheck};
 ghost use Rattle.table_bytes.specs.Rows.{tableIn};
 ghost use Rattle.answers.specs.Reports.{fitted, report, reportOf};
 ghost use Rattle.host_tables.specs.Calls.{readReport, tableRead, benchNumber, benchBytes};

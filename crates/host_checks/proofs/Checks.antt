@@ -6,7 +6,7 @@ use mathlib.Core.List.{List}
 use Rattle.labelling.specs.Names.{tableCheck}
 use Rattle.refusals.specs.Answers.{verdictOf}
 use Rattle.refusals.specs.declared.Verdict.{Verdict}
-use Rattle.soundness.specs.Rules.{storeCheck}
+use Rattle.store_checks.specs.Stores.{storeCheck}
 use Rattle.table_bytes.specs.Rows.{tableIn}
 use Rattle.answers.specs.Reports.{Report, reportBy, reportOf}
 use Rattle.answers.proofs.Verdicts.{told-check}

@@ -4,7 +4,7 @@ use table_bytes::table_in;
 ghost use mathlib.Core.Path.{_≡_};
 ghost use Rattle.labelling.specs.Names.{tableCheck};
 ghost use Rattle.patterns.specs.Twigs.{twigCheck};
-ghost use Rattle.soundness.specs.Rules.{storeCheck};
+ghost use Rattle.store_checks.specs.Stores.{storeCheck};
 ghost use Rattle.table_bytes.specs.Rows.{tableIn};
 ghost use Rattle.answers.specs.Reports.{report, reportOf};
 
@@ -19,7 +19,7 @@ pub fn check_table(table: &[u8], answer: &mut [usize]) -> u8
 pub fn check_store(table: &[u8], store: &[u16], count: usize, answer: &mut [usize]) -> u8
     ensures { λ n. ⌜ report n (now (answer .exit)) ≡ reportOf (storeCheck (tableIn (now (table .entry))) (now (store .entry)) count) 0 (now (answer .entry)) ⌝ }
 {
-    let verdict = soundness::check_store(table_in(table), store, count);
+    let verdict = store_checks::check_store(table_in(table), store, count);
     tell(verdict, 0, answer)
 }
 

@@ -15,7 +15,7 @@ use Rattle.refusals.specs.declared.Refusal as declared
 use Rattle.refusals.specs.declared.Verdict.{Verdict}
 use Rattle.refusals.specs.declared.Verdict.the-variants as verdict
 use Rattle.refusals.proofs.Verdicts.{passed-none}
-use Rattle.soundness.specs.Rules.{storeCheck}
+use Rattle.store_checks.specs.Stores.{storeCheck}
 use Rattle.printing.specs.Texts.{Prints, told, printedBy, storeMatches, bufferChecks, storeChecks}
 use Rattle.printing.specs.Streams.{Accepted}
 use Rattle.printing.proofs.Printed.{prints-as, printed-on, printed-refused}

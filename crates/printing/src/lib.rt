@@ -12,7 +12,7 @@ use refusals::Listing;
 use refusals::Refusal;
 use refusals::Verdict;
 use refusals::refuse;
-use soundness::store_check;
+use store_checks::store_check;
 use texts::put_matches;
 use texts::put_refusal;
 use twigs::check_twig;

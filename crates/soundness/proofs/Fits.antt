@@ -8,40 +8,18 @@ use lib.ListN.{length, getD, take, drop, length-drop}
 use lib.Seq.{getD-take, length-take-le}
 use mathlib.Core.Logic.{by-cases}
 use native.Mathlib.Decide.{decLt}
-use lib.Dec.{T, eqb, leb, ltb, leb→le}
-use borrow.Author.Tests.{eq-eqb, ne-eqb, le-leb, lt-leb, leb-true, not-true, not-false}
+use lib.Dec.{T}
+use borrow.Author.Tests.{le-leb, leb-true, not-true, not-false}
 use Rattle.labelling.specs.Limits.{maxComponent, maxDepth, labelSize, recordSize}
 use Rattle.storage.specs.Store.{laidOut}
-use Rattle.labelling.proofs.Tests.{is-true, is-false, and-iff}
+use Rattle.labelling.proofs.Tests.{is-true, is-false}
 use Rattle.records.specs.Records.{recordAt}
 use Rattle.records.proofs.Parts.{record-word, record-depth}
 use Rattle.layouts.specs.Words.{wordFits, restFits, wordsFit}
 use Rattle.layouts.proofs.Words.{word-used, rest-of, fit-of-rest, words-each, words-all}
 use Rattle.layouts.proofs.Fits.{fits-label, label-fits}
-use Rattle.soundness.specs.Rules.{Laid, depthFits}
-
--- a depth by its record's number
-module _ (r depth : ℕ) where
-  -- over 15
-  pub depth-over : maxDepth < depth → false ≡ depthFits r depth
-  unfolding depthFits
-  depth-over h = rw (lt-leb depth maxDepth h)
-
-  module _ (h : depth ≤ maxDepth) where
-    -- record 0 has depth 0
-    pub depth-root : r ≡ 0 → eqb depth 0 ≡ depthFits r depth
-    unfolding depthFits
-    depth-root e = rw (le-leb depth maxDepth h, eq-eqb r 0 e)
-
-    -- no other has
-    pub depth-below : (r ≡ 0 → ⊥) → ltb 0 depth ≡ depthFits r depth
-    unfolding depthFits
-    depth-below e = rw (le-leb depth maxDepth h, ne-eqb r 0 e)
-
--- a depth that fits is at most 15
-pub fitting-depth : (r depth : ℕ) → depthFits r depth ≡ true → depth ≤ maxDepth
-unfolding depthFits
-fitting-depth r depth e = leb→le depth maxDepth (and-iff (leb depth maxDepth) _ .0 (subst T (sym e) tt) .0)
+use Rattle.record_rules.specs.Rules.{Laid, depthFits}
+use Rattle.record_rules.proofs.Depths.{fitting-depth}
 
 -- a depth that was found to fit
 pub found-fits : (r depth : ℕ) {b : Bool} → b ≡ depthFits r depth → not b ≡ false → depthFits r depth ≡ true

@@ -23,8 +23,8 @@ use Rattle.labelling.proofs.Kinship.{shared-alike, shared-low}
 use Rattle.storage.proofs.Relaid.{test-none, test-rest, test-passes}
 use Rattle.records.specs.Records.{recordAt}
 use Rattle.records.proofs.Parts.{record-depth}
-use Rattle.soundness.specs.Rules.{Laid, brokenRoot, brokenBelow, brokenAt}
-use Rattle.soundness.proofs.Fits.{fitting-depth, depth-root, depth-below}
+use Rattle.record_rules.specs.Rules.{Laid, brokenRoot, brokenBelow, brokenAt}
+use Rattle.record_rules.proofs.Depths.{fitting-depth, depth-root, depth-below}
 use Rattle.soundness.proofs.Shared.{component-count}
 use Rattle.soundness.proofs.Trail.{behind, Trail, parent-shared, find-none}
 

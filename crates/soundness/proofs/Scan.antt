@@ -20,14 +20,16 @@ use Rattle.labelling.proofs.Tests.{and-iff, is-true}
 use Rattle.storage.proofs.Relaid.{laid-depth}
 use Rattle.records.specs.Records.{recordAt}
 use Rattle.records.proofs.Parts.{record-depth}
-use Rattle.soundness.specs.Rules.{Laid, Ready, depthFits, sharedBefore, brokenAt}
-use Rattle.soundness.specs.Answers.{ruleOf, checkOf, soundnessOf}
-use Rattle.soundness.specs.declared.Rule.{Rule}
-use Rattle.soundness.specs.declared.Rule.the-variants as rule
-use Rattle.soundness.specs.declared.Check.{Check}
-use Rattle.soundness.specs.declared.Check.the-variants as check
+use Rattle.record_rules.specs.Rules.{Laid, Ready, depthFits, sharedBefore, brokenAt}
+use Rattle.record_rules.specs.Answers.{ruleOf, checkOf}
+use Rattle.record_rules.specs.declared.Rule.{Rule}
+use Rattle.record_rules.specs.declared.Rule.the-variants as rule
+use Rattle.record_rules.specs.declared.Check.{Check}
+use Rattle.record_rules.specs.declared.Check.the-variants as check
+use Rattle.record_rules.proofs.Depths.{fitting-depth, depth-root, depth-below}
+use Rattle.soundness.specs.Answers.{soundnessOf}
 use Rattle.soundness.specs.declared.Soundness.the-variants as soundness
-use Rattle.soundness.proofs.Fits.{Fitting, fitting-depth, depth-root, depth-below}
+use Rattle.soundness.proofs.Fits.{Fitting}
 use Rattle.soundness.proofs.Shared.{shares-fit}
 use Rattle.soundness.proofs.Trail.{behind, Trail}
 use Rattle.soundness.proofs.Pass.{broken-is, trail-on}

@@ -1,5 +1,5 @@
--- What a record shares with the previous one: as many words of it need no test, since the previous one's were tested.
-use Prim.Native.Nat.{ℕ, zero, suc, _+_, _-_, _*_, _<_, _≤_}
+-- The words that a record shares with the previous one: they need no test, since the previous one's were tested.
+use Prim.Native.Nat.{ℕ, zero, suc, _+_, _*_, _<_, _≤_}
 use mathlib.Core.Path.{_≡_, refl, sym, ap, _∙_}
 use mathlib.Core.List.{List}
 use native.Mathlib.Nat.{add-zero}
@@ -8,37 +8,15 @@ use lib.ListN.{length, getD, drop}
 use lib.Seq.{getD-take, getD-drop}
 use borrow.Author.Tests.{le-leb}
 use Rattle.labelling.specs.Limits.{maxComponent, maxDepth, recordSize}
-use Rattle.labelling.specs.Labels.{Label, labelOf, shared}
+use Rattle.labelling.specs.Labels.{labelOf, shared}
 use Rattle.labelling.proofs.Kinship.{shared-alike, shared-low, shared-comm}
 use Rattle.records.specs.Records.{recordAt}
 use Rattle.records.proofs.Parts.{record-word, record-depth, record-label, record-long}
 use Rattle.layouts.proofs.Words.{word-used}
-use Rattle.soundness.specs.Rules.{Laid, sharedBefore}
-use Rattle.soundness.proofs.Fits.{Fitting, fitting-depth, laid-small}
-
-module _ (ws : List ℕ) (r : ℕ) where
-  -- record 0 shares nothing
-  pub shares-root : r ≡ 0 → 0 ≡ sharedBefore ws r
-  unfolding sharedBefore
-  shares-root e = rw e refl
-
-  module _ (n : r ≡ 0 → ⊥) where
-    -- another shares what its label does with the label before it
-    shares-labels : shared (labelOf (recordAt (r - 1) ws)) (labelOf (recordAt r ws)) ≡ sharedBefore ws r
-    unfolding sharedBefore
-    shares-labels =
-        let whole : suc (r - 1) ≡ r = omega arith in
-        ap (λ k. shared (labelOf (recordAt (r - 1) ws)) (labelOf (recordAt k ws))) (sym whole) ∙ ap (sharedBefore ws) whole
-
-    -- as it is read from the two labels
-    pub shares-child : {l m : Label} {s : ℕ} → l ≡ labelOf (recordAt (r - 1) ws) → m ≡ labelOf (recordAt r ws) → s ≡ shared l m → s ≡ sharedBefore ws r
-    shares-child p q is = is ∙ rw (p, q) shares-labels
-
-    -- as it is handed on with the number of the previous record
-    pub shares-behind : {s : ℕ} → s ≡ sharedBefore ws r → s ≡ shared (labelOf (recordAt (r - 1) ws)) (labelOf (recordAt (r - 1 + 1) ws))
-    shares-behind is =
-        let at : r - 1 + 1 ≡ r = omega arith in
-        is ∙ sym shares-labels ∙ ap (λ k. shared (labelOf (recordAt (r - 1) ws)) (labelOf (recordAt k ws))) (sym at)
+use Rattle.record_rules.specs.Rules.{Laid, sharedBefore}
+use Rattle.record_rules.proofs.Depths.{fitting-depth}
+use Rattle.record_rules.proofs.Shared.{shares-root}
+use Rattle.soundness.proofs.Fits.{Fitting, laid-small}
 
 -- component j of record r
 component-word : (ws : List ℕ) (r j : ℕ) → j < getD ws (r * recordSize) 0 → getD ws (r * recordSize) 0 ≤ maxDepth →

@@ -1,52 +1,31 @@
 // Soundness: the first record of a store that breaks a rule, found in one pass.
-use clue_lengths::clue_len_of;
 use clue_lengths::clue_lens;
 use clue_lengths::lens_slice;
-use label_order::ordered;
 use labels::Label;
 use layouts::UNUSED;
 use layouts::rest_zero;
 use layouts::shared_part;
-use names::Child;
-use names::MAX_NAME;
 use names::Table;
-use names::child_among;
+use record_rules::Check;
+use record_rules::Rule;
+use record_rules::record_rules;
 use records::Store;
 use records::label_at;
 use refusals::Refusal;
 use refusals::Verdict;
 use refusals::refuse;
-use table_checks::table_check;
 ghost use mathlib.Core.Path.{_≡_};
 ghost use mathlib.Core.List.{[]};
 ghost use Prim.Native.Nat.{_+_, _-_, _*_, _≤_};
 ghost use lib.ListN.{length, getD};
 ghost use Rattle.labelling.specs.Names.{cluesOf};
-ghost use Rattle.labelling.specs.Labels.{labelOf, shared};
 ghost use Rattle.storage.specs.Store as model;
 ghost use Rattle.clue_lengths.specs.Lens.{lensOf};
 ghost use Rattle.refusals.specs.Answers.{verdictOf};
-ghost use Rattle.records.specs.Records.{recordAt};
-ghost use Rattle.soundness.specs.Rules.{Ready, sharedBefore, closedBy, depthFits, brokenRoot, brokenBelow, brokenAt, storeCheck};
-ghost use Rattle.soundness.specs.Answers.{Numbered, checkOf, soundnessOf};
+ghost use Rattle.record_rules.specs.Rules.{sharedBefore, depthFits};
+ghost use Rattle.soundness.specs.Answers.{Numbered, soundnessOf};
 
-// The rules of a sound record, in order.
-pub enum Rule {
-    Layout,
-    Order,
-    Parent,
-    Name,
-    Last,
-    Next,
-}
-
-// What the rules say of a record.
-pub enum Check {
-    Kept,
-    Broken(Rule),
-}
-
-// What they say of a store: sound, or the first rule broken and the record's place.
+// What the rules say of a store: sound, or the first rule broken and the record's place.
 pub enum Soundness {
     Sound,
     Broken(Rule, usize),
@@ -77,104 +56,6 @@ fn depth_fits(r: usize, depth: usize) -> bool
         return depth == 0;
     }
     0 < depth
-}
-
-// A next number is 0 if the clue is empty or the depth is 15.
-fn closed(n: usize, depth: usize, next: u16) -> bool
-    ensures { λ b. ⌜ b ≡ closedBy n depth next ⌝ }
-{
-    if next == 0 {
-        return true;
-    }
-    if depth == Label::MAX_DEPTH {
-        return false;
-    }
-    n != 0
-}
-
-// A component leads from a parent's name, whose clue has n names, to a name.
-fn leads(table: &Table, parent: u16, n: usize, component: u16, name: u16) -> bool
-    requires { ⌜ n ≡ length (cluesOf (now table) parent) ⌝ }
-    ensures { λ b. ⌜ b ≡ model.leads (cluesOf (now (table .entry)) parent) component name ⌝ }
-{
-    let Child::Name(c) = child_among(table, parent as usize, n, component) else {
-        return false;
-    };
-    c as u16 == name
-}
-
-// The rules of record 0 behind its layout.
-fn root_rules(table: &Table, lens: &[usize], store: &[u16]) -> Check
-    requires { ⌜ (now lens ≡ lensOf (now table)) × (20 ≤ length (now store)) × (getD (now store) 0 0 ≡ 0) ⌝ }
-    ensures { λ k. ⌜ k ≡ checkOf (brokenRoot (cluesOf (now (table .entry))) (model.readElement (recordAt 0 (now (store .entry))))) ⌝ }
-{
-    let name = store[Store::NAME];
-    if (MAX_NAME as u16) < name {
-        return Check::Broken(Rule::Name);
-    }
-    if !closed(clue_len_of(lens, name as usize), 0, store[Store::NEXT]) {
-        return Check::Broken(Rule::Next);
-    }
-    Check::Kept
-}
-
-// The rules of the record behind record r, behind its layout, where it shares s components with that one and stands below the record with the number `parent`.
-fn child_rules(
-    table: &Table,
-    lens: &[usize],
-    store: &[u16],
-    r: usize,
-    s: usize,
-    parent: usize,
-) -> Check
-    requires { ⌜ (now lens ≡ lensOf (now table)) × (s ≡ shared (labelOf (recordAt r (now store))) (labelOf (recordAt (r + 1) (now store)))) × (r * 20 + 40 ≤ length (now store)) × (parent * 20 + 20 ≤ length (now store)) × (getD (now store) (r * 20) 0 ≤ 15) × (getD (now store) ((r + 1) * 20) 0 ≤ 15) ⌝ }
-    ensures { λ k. ⌜ k ≡ checkOf (brokenBelow (cluesOf (now (table .entry))) (model.readElement (recordAt r (now (store .entry)))) (model.readElement (recordAt parent (now (store .entry)))) (model.readElement (recordAt (r + 1) (now (store .entry))))) ⌝ }
-{
-    let previous = label_at(store, r);
-    let label = label_at(store, r + 1);
-    if !ordered(previous, label, s) {
-        return Check::Broken(Rule::Order);
-    }
-    if s + 1 != label.len() {
-        return Check::Broken(Rule::Parent);
-    }
-    let last = label[s];
-    let at = (r + 1) * Store::RECORD_WORDS;
-    let up = parent * Store::RECORD_WORDS;
-    let name = store[at + Store::NAME];
-    let above = store[up + Store::NAME];
-    if !leads(table, above, clue_len_of(lens, above as usize), last, name) {
-        return Check::Broken(Rule::Name);
-    }
-    if store[up + Store::NEXT] <= last {
-        return Check::Broken(Rule::Last);
-    }
-    if !closed(
-        clue_len_of(lens, name as usize),
-        s + 1,
-        store[at + Store::NEXT],
-    ) {
-        return Check::Broken(Rule::Next);
-    }
-    Check::Kept
-}
-
-// The rules of record r behind its layout.
-fn record_rules(
-    table: &Table,
-    lens: &[usize],
-    store: &[u16],
-    r: usize,
-    s: usize,
-    parent: usize,
-) -> Check
-    requires { ⌜ (now lens ≡ lensOf (now table)) × (s ≡ sharedBefore (now store) r) × Ready (now store) r parent ⌝ }
-    ensures { λ k. ⌜ k ≡ checkOf (brokenAt (cluesOf (now (table .entry))) (now (store .entry)) r parent) ⌝ }
-{
-    if r == 0 {
-        return root_rules(table, lens, store);
-    }
-    child_rules(table, lens, store, r - 1, s, parent)
 }
 
 // How many components record r shares with the previous one: none for record 0.
@@ -232,7 +113,7 @@ fn first_fault(table: &Table, lens: &[usize], store: &[u16], count: usize) -> So
 }
 
 // The check of the records in use, 19.
-fn check_records(table: &Table, store: &[u16], count: usize) -> Verdict
+pub fn check_records(table: &Table, store: &[u16], count: usize) -> Verdict
     requires { ⌜ count * 20 ≤ length (now store) ⌝ }
     ensures { λ v. ⌜ v ≡ verdictOf (model.soundCheck (cluesOf (now (table .entry))) count (now (store .entry))) ⌝ }
 {
@@ -242,28 +123,4 @@ fn check_records(table: &Table, store: &[u16], count: usize) -> Verdict
         return Verdict::Passed;
     };
     refuse(number_of(rule), place)
-}
-
-// The checks of a lent table and store: 22, 18, 19.
-pub fn store_check(table: &Table, store: &[u16], count: usize) -> Verdict
-    ensures { λ v. ⌜ v ≡ verdictOf (storeCheck (now (table .entry)) (now (store .entry)) count) ⌝ }
-{
-    let Verdict::Passed = table_check(table) else {
-        return refuse(Refusal::BAD_TABLE, 0);
-    };
-    let size = Store {
-        words: store.len(),
-        count,
-    };
-    let Verdict::Passed = size.check_size() else {
-        return refuse(Refusal::STORE_SIZE, 0);
-    };
-    check_records(table, store, count)
-}
-
-// The check of a store: 22, 18, 19.
-pub fn check_store(table: Table, store: &[u16], count: usize) -> Verdict
-    ensures { λ v. ⌜ v ≡ verdictOf (storeCheck table (now (store .entry)) count) ⌝ }
-{
-    store_check(&table, store, count)
 }

@@ -1,6 +1,6 @@
 -- `soundness::depth_fits` meets its contract: a depth over 15, record 0, then another record.
 use borrow.Author.Needs.{needs}
-use Rattle.soundness.proofs.Fits.{depth-over, depth-root, depth-below}
+use Rattle.record_rules.proofs.Depths.{depth-over, depth-root, depth-below}
 use Rattle.soundness.proofs.depth_fits.Statement.{statement}
 use Rattle.soundness.proofs.depth_fits.Tie as tie
 

@@ -6,7 +6,7 @@ use mathlib.Core.Path.{_≡_, _∙_}
 use mathlib.Core.Bool.{true}
 use Rattle.labelling.specs.Limits.{maxDepth}
 use Rattle.labelling.specs.Names.{cluesOf}
-use Rattle.soundness.specs.Rules.{depthFits}
+use Rattle.record_rules.specs.Rules.{depthFits}
 use Rattle.soundness.specs.declared.Soundness.the-variants as soundness
 use Rattle.soundness.proofs.Fits.{Fitting, found-fits, found-depth, fit-on, fit-over, fit-rest, fit-laid}
 use Rattle.soundness.proofs.Shared.{shares-small}

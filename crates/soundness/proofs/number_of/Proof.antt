@@ -1,6 +1,6 @@
 -- `soundness::number_of` meets its contract: every rule has its number.
 use borrow.Author.Needs.{needs}
-use Rattle.soundness.proofs.Rules.{numbered}
+use Rattle.soundness.proofs.Checks.{numbered}
 use Rattle.soundness.proofs.number_of.Statement.{statement}
 use Rattle.soundness.proofs.number_of.Tie as tie
 

@@ -1,6 +1,6 @@
 -- `soundness::shared_before` meets its contract: record 0 shares nothing, another what its label shares with the one before.
 use borrow.Author.Needs.{needs}
-use Rattle.soundness.proofs.Shared.{shares-root, shares-child}
+use Rattle.record_rules.proofs.Shared.{shares-root, shares-child}
 use Rattle.soundness.proofs.shared_before.Statement.{statement}
 use Rattle.soundness.proofs.shared_before.Tie as tie
 

@@ -1,8 +1,8 @@
--- `soundness::store_check` meets its contract: the table, the sizes and the records are checked in turn.
+-- `store_checks::store_check` meets its contract: the table, the sizes and the records are checked in turn.
 use borrow.Author.Needs.{needs}
-use Rattle.soundness.proofs.Checks.{size-room, store-table, store-size, store-records}
-use Rattle.soundness.proofs.store_check.Statement.{statement}
-use Rattle.soundness.proofs.store_check.Tie as tie
+use Rattle.store_checks.proofs.Checks.{size-room, store-table, store-size, store-records}
+use Rattle.store_checks.proofs.store_check.Statement.{statement}
+use Rattle.store_checks.proofs.store_check.Tie as tie
 
 pub store-check-spec : {M : Type 1} → statement M
 store-check-spec =

@@ -9,10 +9,10 @@ use Rattle.labelling.specs.Limits.{recordSize, maxDepth}
 use Rattle.labelling.specs.Names.{Clues}
 use Rattle.storage.specs.Store.{readElement}
 use Rattle.records.specs.Records.{recordAt}
-use Rattle.soundness.specs.Rules.{Ready, brokenRoot, brokenBelow, brokenAt}
-use Rattle.soundness.specs.Answers.{checkOf}
-use Rattle.soundness.specs.declared.Check.{Check}
-use Rattle.soundness.proofs.Fits.{fitting-depth, depth-root}
+use Rattle.record_rules.specs.Rules.{Ready, brokenRoot, brokenBelow, brokenAt}
+use Rattle.record_rules.specs.Answers.{checkOf}
+use Rattle.record_rules.specs.declared.Check.{Check}
+use Rattle.record_rules.proofs.Depths.{fitting-depth, depth-root}
 
 module _ (ws : List ℕ) (r parent : ℕ) (ready : Ready ws r parent) where
   -- record 0 has depth 0

@@ -1,9 +1,9 @@
--- `soundness::record_rules` meets its contract: record 0 has rules of its own.
+-- `record_rules::record_rules` meets its contract: record 0 has rules of its own.
 use borrow.Author.Needs.{needs}
-use Rattle.soundness.proofs.Ready.{ready-root, ready-child, at-root, at-child}
-use Rattle.soundness.proofs.Shared.{shares-behind}
-use Rattle.soundness.proofs.record_rules.Statement.{statement}
-use Rattle.soundness.proofs.record_rules.Tie as tie
+use Rattle.record_rules.proofs.Ready.{ready-root, ready-child, at-root, at-child}
+use Rattle.record_rules.proofs.Shared.{shares-behind}
+use Rattle.record_rules.proofs.record_rules.Statement.{statement}
+use Rattle.record_rules.proofs.record_rules.Tie as tie
 
 pub record-rules-spec : {M : Type 1} → statement M
 record-rules-spec =

@@ -9,11 +9,9 @@ use lib.Dec.{eqb, ltb}
 use borrow.Author.Tests.{eq-eqb, ne-eqb, lt-ltb, le-ltb, le-leb, lt-leb, not-true, not-false}
 use Rattle.labelling.specs.Basics.{elim?, last}
 use Rattle.labelling.specs.Limits.{maxDepth, maxName, recordSize, nameWord, nextWord}
-use Rattle.labelling.specs.Refusals.{unsound}
 use Rattle.labelling.specs.Names.{Clues, led, isName}
 use Rattle.labelling.specs.Labels.{Label, before, shared, labelOf}
 use Rattle.storage.specs.Store as model
-use Rattle.storage.proofs.Faults.{rule-number}
 use Rattle.labelling.proofs.Kinship.{shared-low}
 use Rattle.names.specs.Answers.{childOf}
 use Rattle.names.specs.declared.Child.{Child}
@@ -21,16 +19,11 @@ use Rattle.names.specs.declared.Child.the-variants as child
 use Rattle.names.proofs.Children.{child-name, child-nowhere}
 use Rattle.records.specs.Records.{recordAt}
 use Rattle.records.proofs.Parts.{record-word, record-label, record-long}
-use Rattle.soundness.specs.Rules.{closedBy, brokenRoot, brokenBelow}
-use Rattle.soundness.specs.Answers.{Numbered, checkOf}
-use Rattle.soundness.specs.declared.Rule.{Rule}
-use Rattle.soundness.specs.declared.Rule.the-variants as rule
-use Rattle.soundness.specs.declared.Check.{Check}
-use Rattle.soundness.specs.declared.Check.the-variants as check
-
--- every rule has the number 19
-pub numbered : (r : Rule) → Numbered r unsound
-numbered r x e = sym (rule-number x)
+use Rattle.record_rules.specs.Rules.{closedBy, brokenRoot, brokenBelow}
+use Rattle.record_rules.specs.Answers.{checkOf}
+use Rattle.record_rules.specs.declared.Rule.the-variants as rule
+use Rattle.record_rules.specs.declared.Check.{Check}
+use Rattle.record_rules.specs.declared.Check.the-variants as check
 
 -- either test, where the second passes
 or-true : (a : Bool) → (a || true) ≡ true

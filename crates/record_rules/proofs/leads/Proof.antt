@@ -1,8 +1,8 @@
--- `soundness::leads` meets its contract: a component leads to a name or nowhere.
+-- `record_rules::leads` meets its contract: a component leads to a name or nowhere.
 use borrow.Author.Needs.{needs}
-use Rattle.soundness.proofs.Rules.{leads-nowhere, leads-name}
-use Rattle.soundness.proofs.leads.Statement.{statement}
-use Rattle.soundness.proofs.leads.Tie as tie
+use Rattle.record_rules.proofs.Rules.{leads-nowhere, leads-name}
+use Rattle.record_rules.proofs.leads.Statement.{statement}
+use Rattle.record_rules.proofs.leads.Tie as tie
 
 pub leads-spec : {M : Type 1} → statement M
 leads-spec =

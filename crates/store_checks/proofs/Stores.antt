@@ -10,7 +10,7 @@ use Rattle.labelling.specs.Names.{cluesOf, tableCheck}
 use Rattle.storage.specs.Store.{sizeCheck, soundCheck}
 use Rattle.labelling.proofs.Refusals.{first-none, first-rest}
 use Rattle.storage.proofs.Sizes.{size-iff}
-use Rattle.soundness.specs.Rules.{storeCheck}
+use Rattle.store_checks.specs.Stores.{storeCheck}
 
 -- checks that refuse do so with others behind them
 first-more : (a b c : Option Refusal) (cs : List (Option Refusal)) (r : Refusal) → first (a ∷ b ∷ c ∷ []) ≡ some r → first (a ∷ b ∷ c ∷ cs) ≡ some r

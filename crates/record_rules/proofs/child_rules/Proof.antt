@@ -1,10 +1,10 @@
--- `soundness::child_rules` meets its contract: the rules are tested in the paper's order.
+-- `record_rules::child_rules` meets its contract: the rules are tested in the paper's order.
 use borrow.Author.Needs.{needs, fits-under}
 use mir.Facts.{fits-widen}
 use Rattle.clue_lengths.proofs.Lens.{len-is}
-use Rattle.soundness.proofs.Rules.{shared-lent, shared-few, below-order, below-parent, below-name, below-last, below-next, below-kept}
-use Rattle.soundness.proofs.child_rules.Statement.{statement}
-use Rattle.soundness.proofs.child_rules.Tie as tie
+use Rattle.record_rules.proofs.Rules.{shared-lent, shared-few, below-order, below-parent, below-name, below-last, below-next, below-kept}
+use Rattle.record_rules.proofs.child_rules.Statement.{statement}
+use Rattle.record_rules.proofs.child_rules.Tie as tie
 
 pub child-rules-spec : {M : Type 1} → statement M
 child-rules-spec =

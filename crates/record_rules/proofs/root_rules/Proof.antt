@@ -1,9 +1,9 @@
--- `soundness::root_rules` meets its contract: the name, then the next number.
+-- `record_rules::root_rules` meets its contract: the name, then the next number.
 use borrow.Author.Needs.{needs}
 use Rattle.clue_lengths.proofs.Lens.{len-is}
-use Rattle.soundness.proofs.Rules.{root-high, root-next, root-kept}
-use Rattle.soundness.proofs.root_rules.Statement.{statement}
-use Rattle.soundness.proofs.root_rules.Tie as tie
+use Rattle.record_rules.proofs.Rules.{root-high, root-next, root-kept}
+use Rattle.record_rules.proofs.root_rules.Statement.{statement}
+use Rattle.record_rules.proofs.root_rules.Tie as tie
 
 pub root-rules-spec : {M : Type 1} → statement M
 root-rules-spec =

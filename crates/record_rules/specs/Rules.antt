@@ -1,6 +1,6 @@
 -- The rules of a sound record, as one pass over a store tests them.
 use mathlib.Core.Bool.{Bool, true, cond, _&&_, _||_, not}
-use mathlib.Core.List.{List, [], _∷_}
+use mathlib.Core.List.{List}
 use mathlib.Core.Option.{Option, none}
 use mathlib.Core.Path.{_≡_}
 use Prim.Native.Nat.{ℕ, zero, suc, _+_, _*_, _<_, _≤_}
@@ -8,10 +8,9 @@ use lib.ListN.{length, getD}
 use lib.Dec.{ltb, leb, eqb}
 use Rattle.labelling.specs.Basics.{last}
 use Rattle.labelling.specs.Limits.{maxDepth, recordSize}
-use Rattle.labelling.specs.Refusals.{Refusal, first}
-use Rattle.labelling.specs.Names.{Clues, isName, cluesOf, tableCheck}
+use Rattle.labelling.specs.Names.{Clues, isName}
 use Rattle.labelling.specs.Labels.{labelOf, before, shared}
-use Rattle.storage.specs.Store.{Element, Rule, readElement, test, laidOut, leads, closed, sizeCheck, soundCheck, orderRule, parentRule, nameRule, lastRule, nextRule}
+use Rattle.storage.specs.Store.{Element, Rule, readElement, test, laidOut, leads, closed, orderRule, parentRule, nameRule, lastRule, nextRule}
 use Rattle.records.specs.Records.{recordAt}
 
 -- a depth is at most 15, and 0 for record 0 only
@@ -43,10 +42,6 @@ brokenAt cl ws (suc r) parent = brokenBelow cl (readElement (recordAt r ws)) (re
 unfoldable pub sharedBefore : List ℕ → ℕ → ℕ
 sharedBefore ws zero = 0
 sharedBefore ws (suc r) = shared (labelOf (recordAt r ws)) (labelOf (recordAt (suc r) ws))
-
--- the checks of table, sizes and records, 22, 18, 19, in this order
-unfoldable pub storeCheck : List (List ℕ) → List ℕ → ℕ → Option Refusal
-storeCheck rows ws count = first (tableCheck rows ∷ sizeCheck (length ws) count ∷ soundCheck (cluesOf rows) count ws ∷ [])
 
 -- record r is laid out as a label of a depth that fits it
 abbrev pub Laid : List ℕ → ℕ → Type 0

@@ -1,0 +1,4 @@
+pub mod Depths
+pub mod Shared
+pub mod Rules
+pub mod Ready

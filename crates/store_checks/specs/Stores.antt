@@ -1,0 +1,12 @@
+-- The check of a store: what the calls that take one check before their own.
+use mathlib.Core.List.{List, [], _∷_}
+use mathlib.Core.Option.{Option}
+use Prim.Native.Nat.{ℕ}
+use lib.ListN.{length}
+use Rattle.labelling.specs.Refusals.{Refusal, first}
+use Rattle.labelling.specs.Names.{cluesOf, tableCheck}
+use Rattle.storage.specs.Store.{sizeCheck, soundCheck}
+
+-- the checks of table, sizes and records, 22, 18, 19, in this order
+unfoldable pub storeCheck : List (List ℕ) → List ℕ → ℕ → Option Refusal
+storeCheck rows ws count = first (tableCheck rows ∷ sizeCheck (length ws) count ∷ soundCheck (cluesOf rows) count ws ∷ [])
