@@ -1,10 +1,10 @@
 // The input of matching before its streams: table, root name, twig and counts checked in turn.
 use names::MAX_NAME;
 use names::Table;
-use plans::check_counts;
 use refusals::Refusal;
 use refusals::Verdict;
 use refusals::refuse;
+use stream_counts::check_counts;
 use table_checks::table_check;
 use twigs::check_twig;
 ghost use mathlib.Core.Path.{_≡_};

@@ -23,10 +23,11 @@ use Rattle.refusals.specs.declared.Refusal as declared
 use Rattle.refusals.specs.declared.Verdict.{Verdict}
 use Rattle.refusals.specs.declared.Verdict.the-variants as verdict
 use Rattle.refusals.proofs.Verdicts.{passed-none, refused-some}
-use Rattle.plans.specs.Plans.{isFew, countsCheck, startsOf, countsOf, guidesOf, Plan}
-use Rattle.plans.proofs.Counts.{counts-each, counts-few, counts-words, words-small}
+use Rattle.stream_counts.specs.Counts.{isFew, countsCheck}
+use Rattle.stream_counts.proofs.Counts.{counts-each, counts-few, counts-words, words-small}
+use Rattle.stream_counts.proofs.Streams as stream-counts
+use Rattle.plans.specs.Plans.{startsOf, countsOf, guidesOf, Plan}
 use Rattle.plans.proofs.Planning.{plan-made}
-use Rattle.plans.proofs.Plans as plans
 use Rattle.reading.specs.Reads.{Reads}
 use Rattle.places.specs.Settings.{Sharing}
 use Rattle.pruning.specs.Prunes.{Prunable, Pruned, Matchless}
@@ -80,7 +81,7 @@ module _ (rows : List (List ℕ)) (root : ℕ) (bytes counts buffer out : List �
   unfolding inputCheck matchRefusal
   input-refused checked f g =
       let (r, is) = refused-some (inputCheck rows root bytes counts (length buffer)) checked f in
-      refused-by r (refused-alike _ _ _ _ _ _ r (plans.streams-refused (cluesOf rows) root (readTwig bytes) counts buffer r) is) (checked ∙ ap verdictOf is) g
+      refused-by r (refused-alike _ _ _ _ _ _ r (stream-counts.streams-refused (cluesOf rows) root (readTwig bytes) counts buffer r) is) (checked ∙ ap verdictOf is) g
 
   -- an input that passed
   module _ (passed : inputCheck rows root bytes counts (length buffer) ≡ none)
@@ -94,7 +95,7 @@ module _ (rows : List (List ℕ)) (root : ℕ) (bytes counts buffer out : List �
         let (table, name) = input-names rows root bytes counts (length buffer) passed in
         first-rest _ _ table ∙ first-rest _ _ name ∙ first-rest _ _ (input-twig rows root bytes counts (length buffer) passed) ∙
         ap (λ o. first (o ∷ roomCheck (matchWords (matchesOf (cluesOf rows) root bytes counts buffer)) out ∷ []))
-        (plans.streams-passed (cluesOf rows) root (readTwig bytes) counts buffer (input-counts rows root bytes counts (length buffer) passed))
+        (stream-counts.streams-passed (cluesOf rows) root (readTwig bytes) counts buffer (input-counts rows root bytes counts (length buffer) passed))
 
     -- a label that is ruled out
     pub label-refused : {x : declared.Refusal} {a : Listing} → v ≡ verdict.Refused x → a ≡ refusedBy v →
