@@ -114,6 +114,16 @@ pub fn front_bytes(bytes: &[u8], len: usize) -> &[u8]
     &bytes[0..len]
 }
 
+// The bytes of a slice from a place on; none where it is not there.
+pub fn behind_bytes(bytes: &[u8], at: usize) -> &[u8]
+    ensures { λ r. ⌜ now r ≡ drop at (now (bytes .entry)) ⌝ }
+{
+    if bytes.len() < at {
+        return &bytes[0..0];
+    }
+    &bytes[at..]
+}
+
 // The first numbers of a slice; all where there are fewer.
 pub fn front_numbers(numbers: &[usize], len: usize) -> &[usize]
     ensures { λ r. ⌜ now r ≡ take len (now (numbers .entry)) ⌝ }
