@@ -1,34 +1,13 @@
-// What the program that prints matches prints, over many small folders: each case is the bytes of three files.
-mod asked;
-mod damaged;
-mod garage;
-mod made;
-mod name_cases;
-mod ordered;
-mod room;
+// What the program that prints matches prints, over many small folders. The cases are the lines of the file `stdin`.
+mod files;
+mod lines;
 mod show;
-mod store_cases;
-mod twig_cases;
-mod unsound;
 
-use asked::answers;
-use damaged::fields;
-use garage::example;
-use name_cases::name_cases;
-use ordered::orders;
-use room::rooms;
-use store_cases::store_cases;
-use twig_cases::twig_cases;
-use unsound::rules;
+use guards::front_bytes;
+use lines::lines;
 
 fn main() {
-    example();
-    name_cases();
-    store_cases();
-    rules();
-    twig_cases();
-    fields();
-    answers();
-    rooms();
-    orders();
+    let mut text = io::large_buffer();
+    let n = io::read_full(0, &mut text);
+    lines(front_bytes(&text, n));
 }

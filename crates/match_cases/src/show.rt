@@ -1,76 +1,71 @@
 // What the cases print.
+use crate::files::NAMES;
+use crate::files::STORE;
+use crate::files::TWIG;
+use crate::files::file;
+use case_lines::sum;
+use guards::behind_bytes;
 use guards::byte;
 use guards::front_bytes;
 use printing::TEXT_BYTES;
 use printing::print_matches;
 
 // The byte that ends a line.
-const NEWLINE: u8 = 10;
+pub const NEWLINE: u8 = 10;
+
+const SPACE: u8 = 32;
 
 // Text as it is.
-pub fn say(text: &[u8]) {
+fn say(text: &[u8]) {
     io::write_all(1, text);
 }
 
 // A number.
-pub fn number(n: usize) {
+fn number(n: usize) {
     io::print_decimal(1, n as u64);
 }
 
-// What is printed for three files.
-pub fn print(names: &[u8], store: &[u8], twig: &[u8]) {
-    let mut text = [0u8; TEXT_BYTES];
-    let n = print_matches(names, store, twig, &mut text);
-    say(front_bytes(&text, n));
-}
-
-// How many lines a text has.
-fn line_count(text: &[u8]) -> usize {
-    let mut n: usize = 0;
-    let mut i: usize = 0;
-    while i < text.len() {
-        if text[i] == NEWLINE {
-            n = std::num::wrapping_add_usize(n, 1);
-        }
-        i += 1;
+// The text of a line; what follows stands behind a space at its end, and on a line of its own otherwise.
+pub fn title(text: &[u8]) {
+    say(text);
+    if byte(text, std::num::wrapping_sub_usize(text.len(), 1)) != SPACE {
+        say(b"\n");
     }
-    n
-}
-
-// Where the last line of a text begins.
-fn last_line(text: &[u8]) -> usize {
-    let mut i = text.len();
-    while 1 < i {
-        i -= 1;
-        if byte(text, i - 1) == NEWLINE {
-            return i;
-        }
-    }
-    0
-}
-
-// The bytes of a text from a place on; all where it is not there.
-fn behind(text: &[u8], at: usize) -> &[u8] {
-    if text.len() < at {
-        return text;
-    }
-    &text[at..]
 }
 
 // The size of a text, its first bytes and its last line.
 fn outline(text: &[u8], first: usize) {
+    let mut lines: usize = 1;
+    let mut last: usize = 0;
+    let mut i: usize = 1;
+    while i < text.len() {
+        if text[i - 1] == NEWLINE {
+            lines = sum(lines, 1);
+            last = i;
+        }
+        i += 1;
+    }
     number(text.len());
     say(b" bytes in ");
-    number(line_count(text));
+    number(lines);
     say(b" lines\n");
     say(front_bytes(text, first));
     say(b"..\n");
-    say(behind(text, last_line(text)));
+    say(behind_bytes(text, last));
 }
 
-// What is printed for three files, in outline.
-pub fn print_long(names: &[u8], store: &[u8], twig: &[u8], first: usize) {
+// What is printed for the three files; only its outline where some first bytes are asked for.
+pub fn answer(files: &[u8], first: usize) {
     let mut text = [0u8; TEXT_BYTES];
-    let n = print_matches(names, store, twig, &mut text);
-    outline(front_bytes(&text, n), first);
+    let n = print_matches(
+        file(files, NAMES),
+        file(files, STORE),
+        file(files, TWIG),
+        &mut text,
+    );
+    if first == 0 {
+        say(front_bytes(&text, n));
+    } else {
+        outline(front_bytes(&text, n), first);
+    }
 }
