@@ -1,13 +1,12 @@
 // Calls that take no store: numbers, files, tables, labels and twigs.
-use crate::row::half;
-use crate::row::octet;
 use crate::row::put_words;
-use crate::row::sum;
 use crate::row::table;
 use crate::show::refusal;
 use crate::show::say;
 use crate::show::say_number;
 use crate::show::verdict;
+use case_lines::half;
+use case_lines::octet;
 use decoding::decode;
 use guards::byte;
 use guards::front;

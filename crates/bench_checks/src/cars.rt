@@ -1,10 +1,10 @@
 // How many records of a car there are.
-use crate::row::half;
 use crate::show::say;
 use crate::show::say_number;
 use crate::stores::counted;
 use crate::stores::same;
 use crate::stores::spot;
+use case_lines::half;
 use guards::behind;
 use guards::front;
 use guards::number;

@@ -1,14 +1,14 @@
 // Entries one after the other, and vehicles deleted one after the other.
 use crate::cars::label_of;
-use crate::row::ROW;
-use crate::row::half;
-use crate::row::octet;
-use crate::row::sum;
 use crate::row::table;
 use crate::show::dotted;
 use crate::show::say;
 use crate::show::say_number;
 use crate::stores::count_of;
+use case_lines::ROW;
+use case_lines::half;
+use case_lines::octet;
+use case_lines::sum;
 use deletions::delete;
 use entries::enter;
 use guards::copy;

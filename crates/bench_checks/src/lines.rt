@@ -15,8 +15,6 @@ use crate::growth::wipe;
 use crate::outputs::items;
 use crate::outputs::matching;
 use crate::outputs::stream;
-use crate::row::ROW;
-use crate::row::sum;
 use crate::show::say;
 use crate::stores::begin;
 use crate::stores::check;
@@ -25,64 +23,14 @@ use crate::stores::entry;
 use crate::stores::records;
 use crate::stores::unchanged;
 use crate::stores::value;
+use case_lines::ROW;
+use case_lines::bar_of;
+use case_lines::read_row;
+use case_lines::sum;
 use guards::byte;
 use guards::front_bytes;
-use guards::number;
-use guards::put_number;
 
 const NEWLINE: u8 = 10;
-
-const BAR: u8 = 124;
-
-const ZERO: u8 = 48;
-
-const NINE: u8 = 57;
-
-// A number below this has room for one digit more.
-const ROOM: usize = 1844674407370955161;
-
-// A byte of a line is a digit.
-fn is_digit(line: &[u8], i: usize) -> bool {
-    let b = byte(line, i);
-    ZERO <= b && b <= NINE
-}
-
-// A byte of a line read into its row: the number of numbers, then the numbers.
-fn read_byte(line: &[u8], i: usize, row: &mut [usize]) {
-    if !is_digit(line, i) {
-        return;
-    }
-    let last = number(row, 0);
-    let n = if is_digit(line, std::num::wrapping_sub_usize(i, 1)) {
-        last
-    } else {
-        sum(last, 1)
-    };
-    put_number(row, 0, n);
-    let tens = number(row, n) % ROOM * 10;
-    put_number(row, n, sum(tens, (byte(line, i) % 16) as usize));
-}
-
-// The numbers of a line from a place on.
-fn read_row(line: &[u8], from: usize, row: &mut [usize]) {
-    let mut i = from;
-    while i < line.len() {
-        read_byte(line, i, row);
-        i += 1;
-    }
-}
-
-// Where the bar of a line stands; its end where there is none.
-fn bar_of(line: &[u8]) -> usize {
-    let mut i: usize = 0;
-    while i < line.len() {
-        if line[i] == BAR {
-            return i;
-        }
-        i += 1;
-    }
-    i
-}
 
 // The calls that take no store.
 fn call_alone(letter: u8, row: &[usize]) {

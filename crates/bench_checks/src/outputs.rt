@@ -1,12 +1,12 @@
 // Streams cut from the store, and twigs matched over them.
-use crate::row::half;
-use crate::row::octet;
 use crate::row::table;
 use crate::show::dotted;
 use crate::show::say;
 use crate::show::say_number;
 use crate::stores::count_of;
 use crate::stores::outcome;
+use case_lines::half;
+use case_lines::octet;
 use cutting::cut;
 use guards::behind;
 use guards::behind_mut;

@@ -1,27 +1,10 @@
 // What the numbers of a row stand for.
-use guards::number;
+use case_lines::half;
+use case_lines::sum;
 use guards::put_word;
 use name_files::bench_table;
 use name_files::read_names;
 use names::Table;
-
-// The places of a row: how many numbers it has, and the numbers.
-pub const ROW: usize = 40;
-
-// The sum of two numbers.
-pub fn sum(a: usize, b: usize) -> usize {
-    std::num::wrapping_add_usize(a, b)
-}
-
-// A number of a row as a word.
-pub fn half(row: &[usize], i: usize) -> u16 {
-    (number(row, i) % 65536) as u16
-}
-
-// A number of a row as a byte.
-pub fn octet(row: &[usize], i: usize) -> u8 {
-    (number(row, i) % 256) as u8
-}
 
 // Some numbers of a row put over the front of words; what is not in the row is 0.
 pub fn put_words(row: &[usize], from: usize, many: usize, words: &mut [u16]) {

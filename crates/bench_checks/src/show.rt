@@ -1,5 +1,5 @@
 // What the checks print.
-use crate::row::sum;
+use case_lines::sum;
 use guards::word;
 use refusals::Refusal;
 use refusals::Verdict;

@@ -1,14 +1,14 @@
 // Calls on the store, each shown with all that it answers and whether the words are as they were.
 // A store stands in the first words of a slice; the others are watched as well.
-use crate::row::half;
-use crate::row::octet;
 use crate::row::put_words;
-use crate::row::sum;
 use crate::row::table;
 use crate::show::dotted;
 use crate::show::say;
 use crate::show::say_number;
 use crate::show::verdict;
+use case_lines::half;
+use case_lines::octet;
+use case_lines::sum;
 use deletions::delete;
 use entries::enter;
 use guards::behind;
