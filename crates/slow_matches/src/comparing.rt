@@ -1,25 +1,30 @@
 // One twig over its streams, by the slow matcher and by the library's.
 use crate::label_words::start;
+use crate::leaf_streams::EMPTY;
+use crate::leaf_streams::LEAVES;
 use crate::slices::count_if;
-use crate::slices::count_up;
-use crate::slow::Found;
+use crate::slices::sum;
+use crate::slow::OVER;
 use crate::slow::slow_matches;
-use crate::tables::table;
 use crate::tally::AGREE;
+use crate::tally::BRANCHING;
+use crate::tally::EMPTY_STREAM;
 use crate::tally::MANY_MATCHES;
 use crate::tally::NO_MATCH;
 use crate::tally::PAIRS;
 use crate::tally::REFUSED;
+use crate::tally::SIZE;
 use crate::tally::UNFINISHED;
 use crate::tally::say;
-use crate::tally::say_number;
 use crate::trees::ROOT;
-use crate::twig_parts::size_of;
-use guards::front;
+use crate::twig_parts::RECORD_BYTES;
+use crate::twig_parts::wildcard_branches;
 use guards::front_mut;
+use guards::front_numbers;
 use guards::number;
-use guards::word;
 use matching::match_twig;
+use names::Table;
+use refusals::Listing;
 use refusals::Refusal;
 use refusals::Verdict;
 
@@ -47,42 +52,28 @@ fn less(a: usize, b: usize) -> usize {
 }
 
 // The room for an answer of some words: one match too little, one word too little, exact, or ample.
-fn room_for(need: usize, words: usize, pair: usize) -> usize {
-    let kind = pair % ROOMS;
-    if kind == 0 {
-        return less(need, words);
+fn room_for(need: usize, twig: &[u8], pair: usize) -> usize {
+    match pair % ROOMS {
+        0 => less(need, start(twig.len() / RECORD_BYTES)),
+        1 => less(need, 1),
+        2 => need,
+        _ => sum(need, MORE),
     }
-    if kind == 1 {
-        return less(need, 1);
-    }
-    if kind == 2 {
-        return need;
-    }
-    std::num::wrapping_add_usize(need, MORE)
 }
 
-// The room that there is for an answer.
-fn room_within(need: usize, words: usize, pair: usize) -> usize {
-    let room = room_for(need, words, pair);
-    if OUT_WORDS < room {
-        return OUT_WORDS;
+// The number of a refusal at place 0; 0 where the call passed.
+fn refusal(v: Verdict) -> u8 {
+    match v {
+        Verdict::Passed => 0,
+        Verdict::Refused(r) => { if r.place == 0 { r.number } else { 255 } }
     }
-    room
 }
 
-// The word that should stand at a place: one of the matches, or the mark.
-fn due(wanted: &[u16], need: usize, at: usize) -> u16 {
-    if at < need {
-        return word(wanted, at);
-    }
-    MARK
-}
-
-// An output has the words of the matches, and the mark behind them.
-fn has(out: &[u16], wanted: &[u16], need: usize) -> bool {
-    let mut i: usize = 0;
+// An output has the mark from a place on.
+fn is_marked(out: &[u16], from: usize) -> bool {
+    let mut i = from;
     while i < out.len() {
-        if out[i] != due(wanted, need, i) {
+        if out[i] != MARK {
             return false;
         }
         i += 1;
@@ -90,107 +81,69 @@ fn has(out: &[u16], wanted: &[u16], need: usize) -> bool {
     true
 }
 
-// The call passed.
-fn is_passed(v: Verdict) -> bool {
-    match v {
-        Verdict::Passed => true,
-        Verdict::Refused(_) => false,
-    }
+// The library's answer, in a room of some words of an output.
+fn answer(
+    table: &Table,
+    twig: &[u8],
+    streams: &[u16],
+    numbers: &[usize],
+    out: &mut [u16],
+    room: usize,
+) -> Listing {
+    let counts = front_numbers(numbers, number(numbers, LEAVES));
+    match_twig(*table, ROOT, twig, counts, streams, front_mut(out, room))
 }
 
-// The call was refused for want of room.
-fn is_short(v: Verdict) -> bool {
-    match v {
-        Verdict::Passed => false,
-        Verdict::Refused(r) => r.number == Refusal::SHORT_OUTPUT && r.place == 0,
-    }
+// An answer is a refusal's number, or 0, with n matches, which all stand in the output.
+fn is_due(listing: Listing, number: u8, n: usize, shown: usize) -> bool {
+    let v = listing.verdict;
+    refusal(v) == number && listing.count == n && shown == n
 }
 
-// An answer that passed is the one wanted.
-fn right_list(
-    v: Verdict,
-    count: usize,
-    n: usize,
-    out: &[u16],
-    wanted: &[u16],
-    need: usize,
-) -> bool {
-    is_passed(v) && count == n && has(out, wanted, need)
-}
-
-// A refusal is the one wanted, and leaves the output as it was.
-fn right_refusal(v: Verdict, count: usize, out: &[u16]) -> bool {
-    is_short(v) && count == 0 && has(out, out, 0)
-}
-
-// A pair that differs is told by its number.
-fn report(good: bool, tally: &mut [usize]) {
-    count_up(tally, PAIRS);
-    if good {
-        count_up(tally, AGREE);
-        return;
-    }
-    say(b"pair ");
-    say_number(number(tally, PAIRS));
-    say(b" differs\n");
-}
-
-// How many matches there are.
-fn count_matches(n: usize, tally: &mut [usize]) {
+// A pair counted by its matches and the library's answer. One that differs is told by its number.
+fn count_answer(tally: &mut [usize], n: usize, refused: bool, good: bool) {
+    count_if(tally, PAIRS, true);
+    count_if(tally, AGREE, good);
     count_if(tally, NO_MATCH, n == 0);
     count_if(tally, MANY_MATCHES, MANY <= n);
+    count_if(tally, REFUSED, refused);
+    if !good {
+        say(b"pair # differs\n", tally);
+    }
 }
 
-// The library's answer beside n matches of so many labels.
-fn answer(
-    kind: usize,
+// A pair counted by its twig and its streams.
+fn count_twig(tally: &mut [usize], twig: &[u8], numbers: &[usize]) {
+    count_if(tally, sum(SIZE, twig.len() / RECORD_BYTES), true);
+    count_if(tally, BRANCHING, wildcard_branches(twig));
+    count_if(tally, EMPTY_STREAM, number(numbers, EMPTY) != 0);
+}
+
+// A twig over its streams, unless the slow matcher comes to no end.
+pub fn compare(
+    table: &Table,
     twig: &[u8],
-    counts: &[usize],
+    store: &[u16],
     streams: &[u16],
-    wanted: &[u16],
-    n: usize,
-    labels: usize,
+    numbers: &[usize],
     tally: &mut [usize],
 ) {
-    let need = start(labels);
-    let room = room_within(need, start(size_of(twig)), number(tally, PAIRS));
     let mut out = [MARK; OUT_WORDS];
-    let listing = match_twig(
-        table(kind),
-        ROOT,
-        twig,
-        counts,
-        streams,
-        front_mut(&mut out, room),
-    );
-    let v = listing.verdict;
-    count_matches(n, tally);
-    if room < need {
-        count_up(tally, REFUSED);
-        report(right_refusal(v, listing.count, &out), tally);
+    let walk = slow_matches(twig, store, streams, numbers, &out);
+    if walk.next != OVER {
+        count_if(tally, UNFINISHED, true);
         return;
     }
-    report(
-        right_list(v, listing.count, n, front(&out, room), wanted, need),
-        tally,
-    );
-}
-
-// A twig over its streams; whether the slow matcher came to an end.
-pub fn compare(
-    kind: usize,
-    twig: &[u8],
-    counts: &[usize],
-    streams: &[u16],
-    tally: &mut [usize],
-) -> bool {
-    let mut wanted = [MARK; OUT_WORDS];
-    let t = table(kind);
-    let found = slow_matches(&t, ROOT, twig, counts, streams, &mut wanted);
-    let Found::Matches(n, labels) = found else {
-        count_up(tally, UNFINISHED);
-        return false;
+    let need = start(walk.labels);
+    let room = room_for(need, twig, number(tally, PAIRS));
+    let listing = answer(table, twig, streams, numbers, &mut out, room);
+    let again = slow_matches(twig, store, streams, numbers, &out);
+    let refused = room < need || OUT_WORDS < need;
+    let good = if refused {
+        is_due(listing, Refusal::SHORT_OUTPUT, 0, again.shown) && is_marked(&out, 0)
+    } else {
+        is_due(listing, 0, walk.found, again.shown) && is_marked(&out, need)
     };
-    answer(kind, twig, counts, streams, &wanted, n, labels, tally);
-    true
+    count_answer(tally, walk.found, refused, good);
+    count_twig(tally, twig, numbers);
 }

@@ -8,7 +8,7 @@ const MULTIPLIER: u64 = 48271;
 // The first state.
 pub const SEED: u64 = 20050830;
 
-// The next number of the sequence, below n; 0 where n is 0.
+// The next number of the sequence, below n; 0 where n is 0. It is 0 one time in n.
 pub fn roll(state: &mut u64, n: usize) -> usize {
     let next = *state % MODULUS * MULTIPLIER % MODULUS;
     *state = next;
@@ -16,9 +16,4 @@ pub fn roll(state: &mut u64, n: usize) -> usize {
         return 0;
     }
     next as usize % n
-}
-
-// One time in n.
-pub fn once_in(state: &mut u64, n: usize) -> bool {
-    roll(state, n) == 0
 }

@@ -9,26 +9,21 @@ const NESTED: [u8; 10] = [0, 0, 0, 1, 1, 0, 1, 1, 1, 2];
 // One name below itself, and one with nothing below it.
 const CHAIN: [u8; 4] = [0, 0, 0, 1];
 
-// The bytes of a file of 256 pairs.
-const MANY_BYTES: usize = 512;
+// A file of sixteen names, each below every one: its pairs and its bytes.
+const PAIRS: usize = 256;
+
+const FILE_BYTES: usize = 512;
 
 // How many tables there are.
 pub const TABLES: usize = 4;
 
-// A byte of a file in which each of sixteen names stands below every one.
-fn many_byte(i: usize) -> u8 {
-    if i % 2 == 0 {
-        return (i / 32 % 16) as u8;
-    }
-    (i / 2 % 16) as u8
-}
-
 // A table of many names.
 fn many() -> Table {
-    let mut file = [0u8; MANY_BYTES];
+    let mut file = [0u8; FILE_BYTES];
     let mut i: usize = 0;
-    while i < MANY_BYTES {
-        file[i] = many_byte(i);
+    while i < PAIRS {
+        file[i * 2] = (i / 16) as u8;
+        file[i * 2 + 1] = (i % 16) as u8;
         i += 1;
     }
     read_names(&file)
@@ -36,14 +31,10 @@ fn many() -> Table {
 
 // The table of a kind.
 pub fn table(kind: usize) -> Table {
-    if kind == 0 {
-        return bench_table();
+    match kind {
+        0 => bench_table(),
+        1 => read_names(&NESTED),
+        2 => read_names(&CHAIN),
+        _ => many(),
     }
-    if kind == 1 {
-        return read_names(&NESTED);
-    }
-    if kind == 2 {
-        return read_names(&CHAIN);
-    }
-    many()
 }

@@ -1,69 +1,43 @@
 // How many pairs there are of each kind, counted and printed.
 use crate::slices::sum;
-use crate::twig_parts::MAX_RECORDS;
 use guards::number;
 
-// The kinds, and where each is counted.
+// The kinds, and where each is counted. The twigs of a size are counted as many places behind one place.
 pub const PAIRS: usize = 0;
 
 pub const AGREE: usize = 1;
 
-pub const BRANCHING: usize = 2;
+pub const SIZE: usize = 1;
 
-pub const EMPTY_STREAM: usize = 3;
+pub const BRANCHING: usize = 10;
 
-pub const NO_MATCH: usize = 4;
+pub const EMPTY_STREAM: usize = 11;
 
-pub const MANY_MATCHES: usize = 5;
+pub const NO_MATCH: usize = 12;
 
-pub const REFUSED: usize = 6;
+pub const MANY_MATCHES: usize = 13;
 
-pub const UNFINISHED: usize = 7;
+pub const REFUSED: usize = 14;
 
-// The twigs of a size are counted as many places behind this one.
-pub const SIZE: usize = 7;
+pub const UNFINISHED: usize = 15;
 
 // How many counts there are.
 pub const KINDS: usize = 16;
 
-// Text as it is.
-pub fn say(text: &[u8]) {
-    io::write_all(1, text);
-}
+// What stands in a text for the next count.
+const COUNT: u8 = 35;
 
-// A number.
-pub fn say_number(n: usize) {
-    io::print_decimal(1, n as u64);
-}
-
-// A count with what it counts.
-fn line(text: &[u8], tally: &[usize], kind: usize) {
-    say(text);
-    say_number(number(tally, kind));
-    say(b"\n");
-}
-
-// The pairs of each size.
-fn sizes(tally: &[usize]) {
-    say(b"twigs of 1 to 8 records:");
-    let mut size: usize = 1;
-    while size <= MAX_RECORDS {
-        say(b" ");
-        say_number(number(tally, sum(SIZE, size)));
-        size += 1;
+// A text with the counts, from the first on.
+pub fn say(text: &[u8], tally: &[usize]) {
+    let mut kind: usize = 0;
+    let mut i: usize = 0;
+    while i < text.len() {
+        if text[i] == COUNT {
+            io::print_decimal(1, number(tally, kind) as u64);
+            kind = sum(kind, 1);
+        } else {
+            io::write_all(1, &text[i..i + 1]);
+        }
+        i += 1;
     }
-    say(b"\n");
-}
-
-// All counts.
-pub fn print(tally: &[usize]) {
-    line(b"pairs of a store and a twig: ", tally, PAIRS);
-    line(b"the two matchers agree: ", tally, AGREE);
-    sizes(tally);
-    line(b"with a wildcard that branches: ", tally, BRANCHING);
-    line(b"with an empty stream: ", tally, EMPTY_STREAM);
-    line(b"with 0 matches: ", tally, NO_MATCH);
-    line(b"with 1,000 matches or more: ", tally, MANY_MATCHES);
-    line(b"refused 17: ", tally, REFUSED);
-    line(b"left out, too many choices: ", tally, UNFINISHED);
 }

@@ -1,23 +1,24 @@
 // Stores made up by entries and deletions at random.
-use crate::label_words::depth;
-use crate::label_words::prefix;
-use crate::naming::name_below;
-use crate::random::once_in;
 use crate::random::roll;
-use crate::slices::sum;
-use crate::tables::table;
 use deletions::delete;
 use entries::enter;
 use guards::behind;
+use guards::copy;
 use guards::front;
 use guards::word;
 use labels::Label;
+use names::Child;
+use names::FILLER;
 use names::TABLE_SIZE;
+use names::Table;
+use names::child_of;
 use new_stores::new_store;
 use records::Store;
 
 // The words of a store of 240 records.
 pub const STORE_WORDS: usize = 4800;
+
+const STORE_RECORDS: usize = 240;
 
 // One change in so many is a deletion, of the deepest of so many records.
 const DELETION: usize = 20;
@@ -29,37 +30,17 @@ pub const ROOT: u8 = 0;
 
 const PAYLOAD: [u16; 2] = [0, 0];
 
-// The word at which record r begins.
-fn record_start(r: usize) -> usize {
-    if STORE_WORDS < r {
-        return 0;
-    }
-    r * Store::RECORD_WORDS
-}
-
 // The label of record r.
 pub fn record_label(words: &[u16], r: usize) -> &[u16] {
-    front(behind(words, record_start(r)), Label::WORDS)
+    front(
+        behind(words, r % STORE_RECORDS * Store::RECORD_WORDS),
+        Label::WORDS,
+    )
 }
 
 // The name of record r.
-pub fn record_name(words: &[u16], r: usize) -> u8 {
-    let name = word(words, sum(record_start(r), Store::NAME));
-    (name as usize % TABLE_SIZE) as u8
-}
-
-// The label of record r, copied.
-fn copied(words: &[u16], r: usize) -> [u16; 16] {
-    let label = record_label(words, r);
-    prefix(label, depth(label))
-}
-
-// The deeper of two records.
-fn deeper(words: &[u16], r: usize, s: usize) -> usize {
-    if depth(record_label(words, r)) < depth(record_label(words, s)) {
-        return s;
-    }
-    r
+pub fn record_name(words: &[u16], r: usize) -> usize {
+    word(words, r % STORE_RECORDS * Store::RECORD_WORDS + Store::NAME) as usize
 }
 
 // The deepest of some records.
@@ -67,41 +48,41 @@ fn deepest(words: &[u16], count: usize, tries: usize, state: &mut u64) -> usize 
     let mut r = roll(state, count);
     let mut i: usize = 1;
     while i < tries {
-        r = deeper(words, r, roll(state, count));
+        let s = roll(state, count);
+        if word(record_label(words, r), 0) < word(record_label(words, s), 0) {
+            r = s;
+        }
         i += 1;
     }
     r
 }
 
-// A child of record r with one of the names below it.
-fn add(kind: usize, words: &mut [u16], count: usize, r: usize, state: &mut u64) -> usize {
-    let parent = copied(words, r);
-    let pick = (roll(state, TABLE_SIZE) % TABLE_SIZE) as u16;
-    let t = table(kind);
-    let name = name_below(&t, record_name(words, r), pick);
-    let e = enter(t, words, count, &parent, name, PAYLOAD);
-    e.count
-}
-
-// An element taken with all below it.
-fn strike(kind: usize, words: &mut [u16], count: usize, state: &mut u64) -> usize {
-    let label = copied(words, deepest(words, count, DELETED, state));
-    let c = delete(table(kind), words, count, &label);
-    c.count
-}
-
-// An entry below the deepest of some records, or a deletion.
-fn change(kind: usize, words: &mut [u16], count: usize, tries: usize, state: &mut u64) -> usize {
-    if once_in(state, DELETION) {
-        return strike(kind, words, count, state);
+// A name below a name, picked by a number; the filling where there is none.
+fn name_below(table: &Table, name: usize, pick: usize) -> u8 {
+    match child_of(table, name, (pick % TABLE_SIZE) as u16) {
+        Child::Name(n) => n,
+        Child::Nowhere => FILLER,
     }
-    let r = deepest(words, count, tries, state);
-    add(kind, words, count, r, state)
+}
+
+// An element deleted with all below it, or one entered below the deepest of some records; the count.
+fn change(table: &Table, words: &mut [u16], count: usize, tries: usize, state: &mut u64) -> usize {
+    let deletes = roll(state, DELETION) == 0;
+    let r = deepest(words, count, if deletes { DELETED } else { tries }, state);
+    let mut label = [0u16; 16];
+    copy(&mut label, record_label(words, r));
+    if deletes {
+        let c = delete(*table, words, count, &label);
+        return c.count;
+    }
+    let name = name_below(table, record_name(words, r), roll(state, TABLE_SIZE));
+    let e = enter(*table, words, count, &label, name, PAYLOAD);
+    e.count
 }
 
 // A store under a table after some changes; the count.
 pub fn grow(
-    kind: usize,
+    table: &Table,
     words: &mut [u16],
     changes: usize,
     tries: usize,
@@ -111,7 +92,7 @@ pub fn grow(
     let mut count = g.count;
     let mut i: usize = 0;
     while i < changes {
-        count = change(kind, words, count, tries, state);
+        count = change(table, words, count, tries, state);
         i += 1;
     }
     count

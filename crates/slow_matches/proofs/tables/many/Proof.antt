@@ -1,4 +1,4 @@
--- `slow_matches::tables::many` ends: it counts up to the bytes.
+-- `slow_matches::tables::many` ends: it counts up to the pairs.
 use borrow.Author.Needs.{needs}
 use Prim.Native.Nat.{_-_, _≤_}
 use mathlib.Core.Path.{_≡_}
@@ -7,10 +7,10 @@ use Rattle.slow_matches.proofs.tables.many.Statement.{statement}
 use Rattle.slow_matches.proofs.tables.many.Tie as tie
 
 abbrev Inv-loop : tie.InvT-loop
-Inv-loop file₀ i₀ file i = (length file ≡ 512) × (i ≤ 512)
+Inv-loop file₀ i₀ file i = (length file ≡ 512) × (i ≤ 256)
 
 abbrev μ-loop : tie.MeasureT-loop
-μ-loop file₀ i₀ file i = 512 - i
+μ-loop file₀ i₀ file i = 256 - i
 
 pub many-spec : {M : Type 1} → statement M
 many-spec =
@@ -19,7 +19,12 @@ many-spec =
     Inv-loop
     μ-loop
     (λ c. search needs)
-    (λ c κs. search needs)
+    (λ c. search needs)
+    (λ c. search needs)
+    (λ c. search needs)
+    (λ c. search needs)
+    (λ c. search needs)
+    (λ c. search needs)
     (λ c. search needs)
     (λ c. search needs)
     (λ c. search needs)

@@ -7,10 +7,10 @@ use Rattle.slow_matches.proofs.trees.grow.Statement.{statement}
 use Rattle.slow_matches.proofs.trees.grow.Tie as tie
 
 abbrev Inv-loop : tie.InvT-loop
-Inv-loop kind words₀ changes tries state₀ count₀ i₀ words state count i = (length words ≡ length words₀) × (i ≤ changes)
+Inv-loop table words₀ changes tries state₀ count₀ i₀ words state count i = (length words ≡ length words₀) × (i ≤ changes)
 
 abbrev μ-loop : tie.MeasureT-loop
-μ-loop kind words₀ changes tries state₀ count₀ i₀ words state count i = changes - i
+μ-loop table words₀ changes tries state₀ count₀ i₀ words state count i = changes - i
 
 pub grow-spec : {M : Type 1} → statement M
 grow-spec =

@@ -5,10 +5,10 @@ use Rattle.slow_matches.proofs.twig_making.hung.Statement.{statement}
 use Rattle.slow_matches.proofs.twig_making.hung.Tie as tie
 
 abbrev Inv-loop : tie.InvT-loop
-Inv-loop words count hosts q state₀ parent₀ host₀ i₀ state parent host i = i ≤ 40
+Inv-loop store made q state₀ count parent₀ host₀ labels₀ i₀ state parent host labels i = i ≤ 40
 
 abbrev μ-loop : tie.MeasureT-loop
-μ-loop words count hosts q state₀ parent₀ host₀ i₀ state parent host i = 40 - i
+μ-loop store made q state₀ count parent₀ host₀ labels₀ i₀ state parent host labels i = 40 - i
 
 pub hung-spec : {M : Type 1} → statement M
 hung-spec =
@@ -21,10 +21,12 @@ hung-spec =
     (λ c κs. search needs)
     (λ c κs. search needs)
     (λ c κs. search needs)
+    (λ c. search needs)
     (λ c κs. search needs)
     (λ c κs. search needs)
+    (λ c κs. search needs)
     (λ c. search needs)
     (λ c. search needs)
     (λ c. search needs)
-    (λ c. search needs)
+    (λ c κs. search needs)
     (λ c. search needs))

@@ -7,10 +7,10 @@ use Rattle.slow_matches.proofs.twig_making.make_twig.Statement.{stateme
 use Rattle.slow_matches.proofs.twig_making.make_twig.Tie as tie
 
 abbrev Inv-loop : tie.InvT-loop
-Inv-loop words count twig₀ size state₀ hosts₀ q₀ twig state hosts q = (length twig ≡ length twig₀) × (length hosts ≡ 8) × (q ≤ size)
+Inv-loop store made₀ size state₀ q₀ made state q = (length made ≡ length made₀) × (q ≤ size)
 
 abbrev μ-loop : tie.MeasureT-loop
-μ-loop words count twig₀ size state₀ hosts₀ q₀ twig state hosts q = size - q
+μ-loop store made₀ size state₀ q₀ made state q = size - q
 
 pub make-twig-spec : {M : Type 1} → statement M
 make-twig-spec =
@@ -18,7 +18,6 @@ make-twig-spec =
     (tie.spec
     Inv-loop
     μ-loop
-    (λ c. search needs)
     (λ c. search needs)
     (λ c κs. search needs)
     (λ c. search needs)

@@ -1,18 +1,19 @@
--- `slow_matches::label_words::is_before` ends: it counts past the last word.
+-- `slow_matches::pairs::ask_store` ends: it counts up to the twigs.
 use borrow.Author.Needs.{needs}
-use Prim.Native.Nat.{_-_, _+_, _≤_}
+use Prim.Native.Nat.{_-_, _≤_}
+use mathlib.Core.Path.{_≡_}
 use lib.ListN.{length}
-use Rattle.slow_matches.proofs.label_words.is_before.Statement.{statement}
-use Rattle.slow_matches.proofs.label_words.is_before.Tie as tie
+use Rattle.slow_matches.proofs.pairs.ask_store.Statement.{statement}
+use Rattle.slow_matches.proofs.pairs.ask_store.Tie as tie
 
 abbrev Inv-loop : tie.InvT-loop
-Inv-loop a b shorter end i₀ i = i ≤ length a + 1
+Inv-loop i state₀ tally₀ t changes tries count store k₀ state tally k = (length tally ≡ length tally₀) × (k ≤ 24)
 
 abbrev μ-loop : tie.MeasureT-loop
-μ-loop a b shorter end i₀ i = length a + 1 - i
+μ-loop i state₀ tally₀ t changes tries count store k₀ state tally k = 24 - k
 
-pub is-before-spec : {M : Type 1} → statement M
-is-before-spec =
+pub ask-store-spec : {M : Type 1} → statement M
+ask-store-spec =
     tie.close
     (tie.spec
     Inv-loop
@@ -22,7 +23,7 @@ is-before-spec =
     (λ c κs. search needs)
     (λ c κs. search needs)
     (λ c. search needs)
-    (λ c. search needs)
+    (λ c κs. search needs)
     (λ c. search needs)
     (λ c. search needs)
     (λ c κs. search needs)

@@ -1,18 +1,18 @@
--- `slow_matches::pairs::some_zero` ends: it counts up to the numbers.
+-- `slow_matches::comparing::is_marked` ends: it counts up to the last word.
 use borrow.Author.Needs.{needs}
 use Prim.Native.Nat.{_-_, _≤_}
 use lib.ListN.{length}
-use Rattle.slow_matches.proofs.pairs.some_zero.Statement.{statement}
-use Rattle.slow_matches.proofs.pairs.some_zero.Tie as tie
+use Rattle.slow_matches.proofs.comparing.is_marked.Statement.{statement}
+use Rattle.slow_matches.proofs.comparing.is_marked.Tie as tie
 
 abbrev Inv-loop : tie.InvT-loop
-Inv-loop numbers i₀ i = i ≤ length numbers
+Inv-loop out from i₀ i = from ≤ i
 
 abbrev μ-loop : tie.MeasureT-loop
-μ-loop numbers i₀ i = length numbers - i
+μ-loop out from i₀ i = length out - i
 
-pub some-zero-spec : {M : Type 1} → statement M
-some-zero-spec =
+pub is-marked-spec : {M : Type 1} → statement M
+is-marked-spec =
     tie.close
     (tie.spec
     Inv-loop

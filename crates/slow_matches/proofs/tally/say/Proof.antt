@@ -1,26 +1,24 @@
--- `slow_matches::tally::sizes` ends: it counts up to the largest size.
+-- `slow_matches::tally::say` ends: it counts up to the last byte.
 use borrow.Author.Needs.{needs}
 use Prim.Native.Nat.{_-_, _≤_}
-use Rattle.slow_matches.proofs.tally.sizes.Statement.{statement}
-use Rattle.slow_matches.proofs.tally.sizes.Tie as tie
+use lib.ListN.{length}
+use Rattle.slow_matches.proofs.tally.say.Statement.{statement}
+use Rattle.slow_matches.proofs.tally.say.Tie as tie
 
 abbrev Inv-loop : tie.InvT-loop
-Inv-loop tally size₀ t4 t5 size = size ≤ 9
+Inv-loop text tally kind₀ i₀ kind i = i ≤ length text
 
 abbrev μ-loop : tie.MeasureT-loop
-μ-loop tally size₀ t4 t5 size = 9 - size
+μ-loop text tally kind₀ i₀ kind i = length text - i
 
-pub sizes-spec : {M : Type 1} → statement M
-sizes-spec =
+pub say-spec : {M : Type 1} → statement M
+say-spec =
     tie.close
     (tie.spec
     Inv-loop
     μ-loop
     (λ c. search needs)
-    (λ c κs. search needs)
     (λ c. search needs)
-    (λ c. search needs)
-    (λ c κs. search needs)
     (λ c κs. search needs)
     (λ c κs. search needs)
     (λ c κs. search needs)
@@ -29,4 +27,7 @@ sizes-spec =
     (λ c. search needs)
     (λ c. search needs)
     (λ c κs. search needs)
+    (λ c. search needs)
+    (λ c. search needs)
+    (λ c. search needs)
     (λ c. search needs))
