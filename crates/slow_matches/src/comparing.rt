@@ -1,7 +1,5 @@
 // One twig over its streams, by the slow matcher and by the library's.
 use crate::label_words::start;
-use crate::leaf_streams::EMPTY;
-use crate::leaf_streams::LEAVES;
 use crate::slices::count_if;
 use crate::slices::sum;
 use crate::slow::OVER;
@@ -29,10 +27,10 @@ use refusals::Refusal;
 use refusals::Verdict;
 
 // The words of an output with room for 1,250 matches of eight records.
-const OUT_WORDS: usize = 160000;
+pub const OUT_WORDS: usize = 160000;
 
 // What stands in an output before it is written.
-const MARK: u16 = 60001;
+pub const MARK: u16 = 60001;
 
 // Many matches.
 const MANY: usize = 1000;
@@ -81,69 +79,85 @@ fn is_marked(out: &[u16], from: usize) -> bool {
     true
 }
 
-// The library's answer, in a room of some words of an output.
-fn answer(
-    table: &Table,
-    twig: &[u8],
-    streams: &[u16],
-    numbers: &[usize],
-    out: &mut [u16],
-    room: usize,
-) -> Listing {
-    let counts = front_numbers(numbers, number(numbers, LEAVES));
-    match_twig(*table, ROOT, twig, counts, streams, front_mut(out, room))
+// What an answer should be: a refusal's number or 0, so many matches, and the mark behind so many words.
+struct Due {
+    number: u8,
+    matches: usize,
+    words: usize,
 }
 
-// An answer is a refusal's number, or 0, with n matches, which all stand in the output.
-fn is_due(listing: Listing, number: u8, n: usize, shown: usize) -> bool {
+// The answer due where so many matches take so many words, in a room that may be short.
+fn answer_due(matches: usize, words: usize, short: bool) -> Due {
+    if short {
+        return Due {
+            number: Refusal::SHORT_OUTPUT,
+            matches: 0,
+            words: 0,
+        };
+    }
+    Due {
+        number: 0,
+        matches,
+        words,
+    }
+}
+
+// An answer is the one due, with so many matches shown in the output.
+fn is_right(listing: Listing, d: Due, shown: usize, out: &[u16]) -> bool {
     let v = listing.verdict;
-    refusal(v) == number && listing.count == n && shown == n
+    (refusal(v) == d.number)
+        & (listing.count == d.matches)
+        & (shown == d.matches)
+        & is_marked(out, d.words)
 }
 
 // A pair counted by its matches and the library's answer. One that differs is told by its number.
-fn count_answer(tally: &mut [usize], n: usize, refused: bool, good: bool) {
+fn count_answer(tally: &mut [usize], n: usize, short: bool, good: bool) {
     count_if(tally, PAIRS, true);
     count_if(tally, AGREE, good);
     count_if(tally, NO_MATCH, n == 0);
     count_if(tally, MANY_MATCHES, MANY <= n);
-    count_if(tally, REFUSED, refused);
+    count_if(tally, REFUSED, short);
     if !good {
         say(b"pair # differs\n", tally);
     }
 }
 
 // A pair counted by its twig and its streams.
-fn count_twig(tally: &mut [usize], twig: &[u8], numbers: &[usize]) {
+pub fn count_twig(tally: &mut [usize], twig: &[u8], empty: usize) {
     count_if(tally, sum(SIZE, twig.len() / RECORD_BYTES), true);
     count_if(tally, BRANCHING, wildcard_branches(twig));
-    count_if(tally, EMPTY_STREAM, number(numbers, EMPTY) != 0);
+    count_if(tally, EMPTY_STREAM, empty != 0);
 }
 
-// A twig over its streams, unless the slow matcher comes to no end.
+// A twig over its streams, with an output that has the mark; whether the slow matcher came to an end.
 pub fn compare(
     table: &Table,
     twig: &[u8],
     store: &[u16],
     streams: &[u16],
     numbers: &[usize],
+    leaves: usize,
+    out: &mut [u16],
     tally: &mut [usize],
-) {
-    let mut out = [MARK; OUT_WORDS];
-    let walk = slow_matches(twig, store, streams, numbers, &out);
+) -> bool {
+    let walk = slow_matches(twig, store, streams, numbers, out);
     if walk.next != OVER {
         count_if(tally, UNFINISHED, true);
-        return;
+        return false;
     }
     let need = start(walk.labels);
     let room = room_for(need, twig, number(tally, PAIRS));
-    let listing = answer(table, twig, streams, numbers, &mut out, room);
-    let again = slow_matches(twig, store, streams, numbers, &out);
-    let refused = room < need || OUT_WORDS < need;
-    let good = if refused {
-        is_due(listing, Refusal::SHORT_OUTPUT, 0, again.shown) && is_marked(&out, 0)
-    } else {
-        is_due(listing, 0, walk.found, again.shown) && is_marked(&out, need)
-    };
-    count_answer(tally, walk.found, refused, good);
-    count_twig(tally, twig, numbers);
+    let counts = front_numbers(numbers, leaves);
+    let listing = match_twig(*table, ROOT, twig, counts, streams, front_mut(out, room));
+    let again = slow_matches(twig, store, streams, numbers, out);
+    let short = (room < need) | (OUT_WORDS < need);
+    let good = is_right(
+        listing,
+        answer_due(walk.found, need, short),
+        again.shown,
+        out,
+    );
+    count_answer(tally, walk.found, short, good);
+    true
 }

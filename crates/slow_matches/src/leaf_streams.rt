@@ -1,7 +1,6 @@
 // The streams of a twig, cut from a store one after the other; some emptied, some thinned.
 use crate::label_words::start;
 use crate::random::roll;
-use crate::slices::count_if;
 use crate::slices::sum;
 use crate::twig_parts::MAX_RECORDS;
 use crate::twig_parts::NAME;
@@ -10,7 +9,6 @@ use crate::twig_parts::children;
 use crate::twig_parts::part;
 use cutting::cut;
 use guards::behind_mut;
-use guards::number;
 use guards::put_number;
 use guards::put_word;
 use guards::word;
@@ -21,19 +19,10 @@ use records::Store;
 // The words of the streams of eight leaves, each of 240 labels.
 pub const BUFFER_WORDS: usize = 30720;
 
-// The numbers of a twig's streams: how many labels each has, then how many streams there are, how many of them are empty
-// and how many labels there are in all; then the label at which the stream of each record begins, and the one at which it ends.
-pub const NUMBERS: usize = 27;
+// The numbers of a twig's streams: how many labels each has, then how many labels there are before each record and in all.
+pub const NUMBERS: usize = 17;
 
-pub const LEAVES: usize = 8;
-
-pub const EMPTY: usize = 9;
-
-pub const LABELS: usize = 10;
-
-pub const FROM: usize = 11;
-
-pub const TO: usize = 19;
+pub const BEFORE: usize = 8;
 
 // One stream in so many is emptied, and one in so many thinned.
 const EMPTIED: usize = 40;
@@ -66,17 +55,11 @@ fn stream(table: &Table, store: &[u16], want: u8, out: &mut [u16], state: &mut u
     listing.count
 }
 
-// The stream of record q counted in, with n labels behind those of the streams before it.
-fn count_stream(numbers: &mut [usize], q: usize, n: usize) {
-    let leaf = number(numbers, LEAVES);
-    let from = number(numbers, LABELS);
-    let to = sum(from, n);
-    put_number(numbers, leaf, n);
-    put_number(numbers, LEAVES, sum(leaf, 1));
-    put_number(numbers, LABELS, to);
-    put_number(numbers, FROM + q % MAX_RECORDS, from);
-    put_number(numbers, TO + q % MAX_RECORDS, to);
-    count_if(numbers, EMPTY, n == 0);
+// What is cut: how many streams, how many of them empty, and how many labels in all.
+pub struct Streams {
+    pub leaves: usize,
+    pub empty: usize,
+    pub labels: usize,
 }
 
 // The stream of record q, if it is a leaf, behind those of the leaves before it.
@@ -88,14 +71,20 @@ fn add_stream(
     buffer: &mut [u16],
     numbers: &mut [usize],
     state: &mut u64,
-) {
+    s: Streams,
+) -> Streams {
     if children(twig, q) != 0 {
-        return;
+        return s;
     }
-    let at = start(number(numbers, LABELS));
+    let at = start(s.labels);
     let want = part(twig, q, NAME);
     let n = stream(table, store, want, behind_mut(buffer, at), state);
-    count_stream(numbers, q, n);
+    put_number(numbers, s.leaves, n);
+    Streams {
+        leaves: sum(s.leaves, 1),
+        empty: sum(s.empty, (n == 0) as usize),
+        labels: sum(s.labels, n),
+    }
 }
 
 // The streams of a twig, and their numbers.
@@ -106,11 +95,18 @@ pub fn cut_streams(
     buffer: &mut [u16],
     numbers: &mut [usize],
     state: &mut u64,
-) {
+) -> Streams {
     let size = twig.len() / RECORD_BYTES;
+    let mut s = Streams {
+        leaves: 0,
+        empty: 0,
+        labels: 0,
+    };
     let mut q: usize = 0;
     while q < size {
-        add_stream(table, store, twig, q, buffer, numbers, state);
+        s = add_stream(table, store, twig, q, buffer, numbers, state, s);
+        put_number(numbers, BEFORE + 1 + q % MAX_RECORDS, s.labels);
         q += 1;
     }
+    s
 }

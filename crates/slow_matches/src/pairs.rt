@@ -1,8 +1,10 @@
 // Pairs of a store and a twig: made up, compared and counted.
+use crate::comparing::MARK;
+use crate::comparing::OUT_WORDS;
 use crate::comparing::compare;
+use crate::comparing::count_twig;
 use crate::label_words::start;
 use crate::leaf_streams::BUFFER_WORDS;
-use crate::leaf_streams::LABELS;
 use crate::leaf_streams::NUMBERS;
 use crate::leaf_streams::cut_streams;
 use crate::random::roll;
@@ -17,7 +19,6 @@ use crate::twig_parts::MAX_RECORDS;
 use crate::twig_parts::RECORD_BYTES;
 use guards::front;
 use guards::front_bytes;
-use guards::number;
 use names::Table;
 use records::Store;
 
@@ -41,9 +42,21 @@ fn ask(table: &Table, store: &[u16], size: usize, state: &mut u64, tally: &mut [
     let mut numbers = [0usize; NUMBERS];
     make_twig(store, &mut made, size, state);
     let twig = front_bytes(&made, size % 9 * RECORD_BYTES);
-    cut_streams(table, store, twig, &mut buffer, &mut numbers, state);
-    let streams = front(&buffer, start(number(&numbers, LABELS)));
-    compare(table, twig, store, streams, &numbers, tally);
+    let s = cut_streams(table, store, twig, &mut buffer, &mut numbers, state);
+    let streams = front(&buffer, start(s.labels));
+    let mut out = [MARK; OUT_WORDS];
+    if compare(
+        table,
+        twig,
+        store,
+        streams,
+        &numbers,
+        s.leaves,
+        &mut out,
+        tally,
+    ) {
+        count_twig(tally, twig, s.empty);
+    }
 }
 
 // Twigs of every size asked of store i, which is made up under one of the tables.

@@ -64,7 +64,7 @@ fn top(count: usize, state: &mut u64) -> Hook {
 
 // An edge for a way between two hosts. A child edge is not always true there.
 fn edge_for(labels: usize, state: &mut u64) -> u8 {
-    if roll(state, 2) == 0 && labels == 2 {
+    if (roll(state, 2) == 0) & (labels == 2) {
         return CHILD;
     }
     if roll(state, MADE_UP) == 0 {

@@ -7,10 +7,10 @@ use Rattle.slow_matches.proofs.leaf_streams.cut_streams.Statement.{stat
 use Rattle.slow_matches.proofs.leaf_streams.cut_streams.Tie as tie
 
 abbrev Inv-loop : tie.InvT-loop
-Inv-loop table store twig buffer₀ numbers₀ state₀ size q₀ buffer numbers state q = (length buffer ≡ length buffer₀) × (length numbers ≡ length numbers₀) × (q ≤ size)
+Inv-loop table store twig buffer₀ numbers₀ state₀ size s₀ q₀ buffer numbers state s q = (length buffer ≡ length buffer₀) × (length numbers ≡ length numbers₀) × (q ≤ size)
 
 abbrev μ-loop : tie.MeasureT-loop
-μ-loop table store twig buffer₀ numbers₀ state₀ size q₀ buffer numbers state q = size - q
+μ-loop table store twig buffer₀ numbers₀ state₀ size s₀ q₀ buffer numbers state s q = size - q
 
 pub cut-streams-spec : {M : Type 1} → statement M
 cut-streams-spec =
@@ -18,6 +18,9 @@ cut-streams-spec =
     (tie.spec
     Inv-loop
     μ-loop
+    (λ c. search needs)
+    (λ c κs. search needs)
+    (λ c. search needs)
     (λ c. search needs)
     (λ c κs. search needs)
     (λ c. search needs)
