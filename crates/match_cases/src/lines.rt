@@ -72,12 +72,11 @@ fn run(text: &[u8], start: usize, end: usize, files: &mut [u8]) -> usize {
 }
 
 // Every line.
-pub fn lines(text: &[u8]) {
-    let mut files = [0u8; AREAS];
+pub fn lines(text: &[u8], files: &mut [u8]) {
     let mut start: usize = 0;
     let mut i: usize = 0;
     while i < text.len() {
-        start = run(text, start, i, &mut files);
+        start = run(text, start, i, files);
         i += 1;
     }
 }

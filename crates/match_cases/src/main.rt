@@ -3,11 +3,13 @@ mod files;
 mod lines;
 mod show;
 
+use files::AREAS;
 use guards::front_bytes;
 use lines::lines;
 
 fn main() {
     let mut text = io::large_buffer();
     let n = io::read_full(0, &mut text);
-    lines(front_bytes(&text, n));
+    let mut files = [0u8; AREAS];
+    lines(front_bytes(&text, n), &mut files);
 }

@@ -33,8 +33,12 @@ pub fn title(text: &[u8]) {
     }
 }
 
-// The size of a text, its first bytes and its last line.
-fn outline(text: &[u8], first: usize) {
+// A text; only its size, its first bytes and its last line where some first bytes are asked for.
+fn show(text: &[u8], first: usize) {
+    if first == 0 {
+        say(text);
+        return;
+    }
     let mut lines: usize = 1;
     let mut last: usize = 0;
     let mut i: usize = 1;
@@ -54,7 +58,7 @@ fn outline(text: &[u8], first: usize) {
     say(behind_bytes(text, last));
 }
 
-// What is printed for the three files; only its outline where some first bytes are asked for.
+// What is printed for the three files.
 pub fn answer(files: &[u8], first: usize) {
     let mut text = [0u8; TEXT_BYTES];
     let n = print_matches(
@@ -63,9 +67,5 @@ pub fn answer(files: &[u8], first: usize) {
         file(files, TWIG),
         &mut text,
     );
-    if first == 0 {
-        say(front_bytes(&text, n));
-    } else {
-        outline(front_bytes(&text, n), first);
-    }
+    show(front_bytes(&text, n), first);
 }

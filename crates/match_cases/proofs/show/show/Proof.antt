@@ -1,9 +1,9 @@
--- `match_cases::show::outline` ends: it counts up to the end of the text.
+-- `match_cases::show::show` ends: it counts up to the end of the text.
 use borrow.Author.Needs.{needs}
 use Prim.Native.Nat.{_-_, _≤_}
 use lib.ListN.{length}
-use Rattle.match_cases.proofs.show.outline.Statement.{statement}
-use Rattle.match_cases.proofs.show.outline.Tie as tie
+use Rattle.match_cases.proofs.show.show.Statement.{statement}
+use Rattle.match_cases.proofs.show.show.Tie as tie
 
 abbrev Inv-loop : tie.InvT-loop
 Inv-loop text first lines₀ last₀ i₀ t6 t7 t8 lines last i = 1 ≤ i
@@ -11,12 +11,14 @@ Inv-loop text first lines₀ last₀ i₀ t6 t7 t8 lines last i = 1 ≤ i
 abbrev μ-loop : tie.MeasureT-loop
 μ-loop text first lines₀ last₀ i₀ t6 t7 t8 lines last i = length text - i
 
-pub outline-spec : {M : Type 1} → statement M
-outline-spec =
+pub show-spec : {M : Type 1} → statement M
+show-spec =
     tie.close
     (tie.spec
     Inv-loop
     μ-loop
+    (λ c κs. search needs)
+    (λ c. search needs)
     (λ c. search needs)
     (λ c. search needs)
     (λ c. search needs)
