@@ -1,0 +1,3 @@
+-- Labels and ranks in streams.
+pub mod Labels
+pub mod Ranks
