@@ -9,6 +9,13 @@ use lib.Dec.{eqb, leb, ltb}
 abbrev pub wrapped : ℕ → ℕ → ℕ
 wrapped a b = (a + b) % 2 ^ 64
 
+-- the number at a place of a row as a word, and as a byte
+abbrev pub wordAt : List ℕ → ℕ → ℕ
+wordAt row i = getD row i 0 % 65536
+
+abbrev pub byteAt : List ℕ → ℕ → ℕ
+byteAt row i = getD row i 0 % 256
+
 -- where the first bar of a line stands; its end where there is none
 unfoldable pub barOf : List ℕ → ℕ
 barOf [] = 0

@@ -1,9 +1,8 @@
 // A line of a file of cases: where its bar stands, and its numbers.
 ghost use mathlib.Core.Path.{_≡_};
 ghost use mathlib.Core.Bool.{false};
-ghost use Prim.Native.Nat.{_%_};
-ghost use lib.ListN.{getD, drop};
-ghost use Rattle.case_lines.specs.Lines.{wrapped, barOf, digit, placeOf, withByte, rowOf};
+ghost use lib.ListN.{drop};
+ghost use Rattle.case_lines.specs.Lines.{wrapped, wordAt, byteAt, barOf, digit, placeOf, withByte, rowOf};
 use guards::number;
 use guards::put_number;
 
@@ -28,14 +27,14 @@ pub fn sum(a: usize, b: usize) -> usize
 
 // A number of a row as a word.
 pub fn half(row: &[usize], i: usize) -> u16
-    ensures { λ r. ⌜ r ≡ getD (now (row .entry)) i 0 % 65536 ⌝ }
+    ensures { λ r. ⌜ r ≡ wordAt (now (row .entry)) i ⌝ }
 {
     (number(row, i) % 65536) as u16
 }
 
 // A number of a row as a byte.
 pub fn octet(row: &[usize], i: usize) -> u8
-    ensures { λ r. ⌜ r ≡ getD (now (row .entry)) i 0 % 256 ⌝ }
+    ensures { λ r. ⌜ r ≡ byteAt (now (row .entry)) i ⌝ }
 {
     (number(row, i) % 256) as u8
 }
