@@ -7,6 +7,7 @@ use guards::front_bytes;
 use guards::number;
 use guards::put_byte;
 use name_files::BENCH_PAIRS;
+use records::Store;
 
 // Where the area of names.tab begins, ..
 pub const NAMES: usize = 0;
@@ -23,13 +24,12 @@ pub const AREAS: usize = 81000;
 // The bytes that tell a length.
 const HEAD: usize = 2;
 
-// The bytes of a record of store.rec.
-const RECORD_BYTES: usize = 40;
-
 // More records than a store's file may have.
 const RECORDS: usize = 1602;
 
-// The pairs of two names.
+// The names, and their pairs.
+const COUNT: usize = 64;
+
 const PAIRS: usize = 4096;
 
 // A number put as two bytes, the low one first.
@@ -40,8 +40,8 @@ fn put_two(files: &mut [u8], at: usize, x: usize) {
 
 // A word of a record of store.rec.
 fn put_word(files: &mut [u8], r: usize, w: usize, x: usize) {
-    let at = STORE + HEAD + r % RECORDS * RECORD_BYTES;
-    put_two(files, at + w % RECORD_BYTES * 2, x);
+    let at = r % RECORDS * Store::RECORD_WORDS + w % Store::RECORD_WORDS;
+    put_two(files, STORE + HEAD + at * 2, x);
 }
 
 // A file.
@@ -66,13 +66,13 @@ pub fn begin(files: &mut [u8]) {
     put_two(files, NAMES, BENCH_PAIRS.len());
 }
 
-// every pair: names.tab has each pair of names.
-pub fn pairs(files: &mut [u8]) {
-    put_two(files, NAMES, 8192);
+// every LENGTH: the length of names.tab, which has each pair of names, parent by parent.
+pub fn every(row: &[usize], files: &mut [u8]) {
+    put_two(files, NAMES, number(row, 1));
     let mut i: usize = 0;
     while i < PAIRS {
-        put_byte(files, HEAD + i * 2, (i / 64) as u8);
-        put_byte(files, HEAD + i * 2 + 1, (i % 64) as u8);
+        put_byte(files, HEAD + i * 2, (i / COUNT) as u8);
+        put_byte(files, HEAD + i * 2 + 1, (i % COUNT) as u8);
         i += 1;
     }
 }

@@ -4,9 +4,9 @@ use crate::files::NAMES;
 use crate::files::TWIG;
 use crate::files::begin;
 use crate::files::bytes;
+use crate::files::every;
 use crate::files::fill;
 use crate::files::many;
-use crate::files::pairs;
 use crate::files::words;
 use crate::show::NEWLINE;
 use crate::show::answer;
@@ -24,7 +24,7 @@ use guards::number;
 fn change(letter: u8, row: &[usize], files: &mut [u8]) {
     match letter {
         b'b' => begin(files),
-        b'e' => pairs(files),
+        b'e' => every(row, files),
         b'm' => many(row, files),
         b'n' => bytes(row, NAMES, files),
         b's' => words(row, files),
@@ -45,14 +45,14 @@ fn case(letter: u8, row: &[usize], files: &[u8]) {
 // A line: without text it changes the files for the lines behind it, with text for itself alone.
 fn line(line: &[u8], files: &mut [u8]) {
     let bar = bar_of(line);
+    if bar == line.len() {
+        return;
+    }
     let mut row = [0usize; ROW];
     read_row(line, bar, &mut row);
     let letter = byte(line, sum(bar, 1));
     if bar == 0 {
         change(letter, &row, files);
-        return;
-    }
-    if bar == line.len() {
         return;
     }
     title(front_bytes(line, bar));
