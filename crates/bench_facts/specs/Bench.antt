@@ -3,14 +3,15 @@ use mathlib.Core.List.{List, [], _∷_, _++_, map}
 use mathlib.Core.Option.{some}
 use Prim.Native.Nat.{ℕ, _+_}
 use lib.ListN.{replicate}
-use Rattle.labelling.specs.Basics.{elim?, last}
-use Rattle.labelling.specs.Names.{led, cluesOf, readNames}
+use Rattle.basics.specs.Basics.{elim?, last}
+use Rattle.naming.specs.Names.{led, cluesOf, readNames}
 use Rattle.labelling.specs.Numbers.{number, articleNumber}
 use Rattle.labelling.specs.Labels.{Label, labelOf, labelWords, decodeCall, kinshipCall}
 use Rattle.storage.specs.Updates.{Answer, newStore}
 use Rattle.printouts.specs.Printing.{text, joinedBy, labelText}
 use Rattle.model.specs.Book.{Call, entry, deletion, answer}
-use Rattle.labelling.specs.Examples.{shown, told, Check, is, benchTable}
+use Rattle.basics.specs.Examples.{shown, told, Check, is}
+use Rattle.naming.specs.Examples.{benchTable}
 
 -- The bench.
 

@@ -7,13 +7,13 @@ use mathlib.Core.List.{List, _∷_}
 use mathlib.Core.Option.{Option, none, some}
 use native.Mathlib.Omega.{arith}
 use lib.ListN.{length}
-use Rattle.labelling.specs.Limits.{recordSize}
-use Rattle.labelling.specs.Refusals.{Refusal, first, notLabel}
-use Rattle.labelling.specs.Names.{cluesOf, tableCheck}
+use Rattle.basics.specs.Limits.{recordSize}
+use Rattle.basics.specs.Refusals.{Refusal, first, notLabel}
+use Rattle.naming.specs.Names.{cluesOf, tableCheck}
 use Rattle.labelling.specs.Labels.{Label, labelOf, isLabel, labelCheck}
 use Rattle.storage.specs.Store.{Element, sizeCheck, soundCheck}
-use Rattle.labelling.proofs.Refusals.{first-rest, first-last, first-some, first-both, first-here, first-next, check-none}
-use Rattle.labelling.proofs.Tests.{is-true}
+use Rattle.basics.proofs.Refusals.{first-rest, first-last, first-some, first-both, first-here, first-next, check-none}
+use Rattle.basics.proofs.Tests.{is-true}
 use Rattle.refusals.specs.Answers.{verdictOf}
 use Rattle.refusals.specs.declared.Refusal.{Refusal as Shown}
 use Rattle.refusals.specs.declared.Verdict.{Verdict}

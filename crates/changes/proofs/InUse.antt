@@ -7,9 +7,9 @@ use mathlib.Core.Option.{some, none}
 use native.Mathlib.Omega.{arith}
 use lib.ListN.{length, getD, take, drop}
 use lib.Seq.{take-add, drop-at, length-take-le}
-use Rattle.labelling.specs.Basics.{elim?}
-use Rattle.labelling.specs.Limits.{maxDepth, recordSize}
-use Rattle.labelling.specs.Names.{Clues}
+use Rattle.basics.specs.Basics.{elim?}
+use Rattle.basics.specs.Limits.{maxDepth, recordSize}
+use Rattle.naming.specs.Names.{Clues}
 use Rattle.labelling.specs.Labels.{Label}
 use Rattle.storage.specs.Store.{Element, storeWords, readElement, elements, find, elementAt, soundCheck}
 use Rattle.storage.proofs.Sizes.{length-elements-read}

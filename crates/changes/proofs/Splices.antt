@@ -5,8 +5,8 @@ use mathlib.Core.List.{List, [], _∷_, _++_, append-assoc, Memᴰ·append-left}
 use native.Mathlib.Omega.{arith}
 use lib.ListN.{length, take, drop, take-append-drop}
 use lib.Seq.{take-at, drop-at, length-take-le}
-use Rattle.labelling.specs.Basics.{_∈_, joined}
-use Rattle.labelling.specs.Limits.{recordSize}
+use Rattle.basics.specs.Basics.{_∈_, joined}
+use Rattle.basics.specs.Limits.{recordSize}
 use Rattle.storage.specs.Store.{Element, elementWords, storeWords}
 use Rattle.storage.proofs.Words.{Fit, length-storeWords}
 

@@ -3,7 +3,7 @@ use Prim.Native.Nat.{ℕ}
 use mathlib.Core.List.{List, [], _∷_}
 use mathlib.Core.Option.{Option}
 use Rattle.labelling.specs.Labels.{labelCheck}
-use Rattle.labelling.specs.Refusals.{Refusal, first}
+use Rattle.basics.specs.Refusals.{Refusal, first}
 use Rattle.storage.specs.Store.{Element}
 use Rattle.storage.specs.Updates as model
 use Rattle.refusals.specs.Answers.{verdictOf}

@@ -6,7 +6,7 @@ use refusals::Verdict;
 use store_checks::store_check;
 ghost use mathlib.Core.Path.{_≡_};
 ghost use lib.ListN.{length, getD};
-ghost use Rattle.labelling.specs.Limits.{recordSize};
+ghost use Rattle.basics.specs.Limits.{recordSize};
 ghost use Rattle.storage.specs.Store.{elementWords};
 ghost use Rattle.refusals.specs.Answers.{verdictOf};
 ghost use Rattle.changes.specs.Answers.{callCheck, rootElement};

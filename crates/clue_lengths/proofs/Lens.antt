@@ -6,8 +6,8 @@ use native.Mathlib.Omega.{arith}
 use native.Mathlib.Numerals.{add-one}
 use lib.ListN.{length, getD, take, set, replicate, length-map, List·getD-map, List·getD-eq-default}
 use lib.Seq.{take-suc, take-all, length-take-le, set-at}
-use Rattle.labelling.specs.Limits.{tableSize}
-use Rattle.labelling.specs.Names.{namesOf, cluesOf}
+use Rattle.basics.specs.Limits.{tableSize}
+use Rattle.naming.specs.Names.{namesOf, cluesOf}
 use Rattle.clue_lengths.specs.Lens.{lensOf}
 
 -- the length of a name's clue is read from the list

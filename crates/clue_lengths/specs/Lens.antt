@@ -2,7 +2,7 @@
 use Prim.Native.Nat.{ℕ}
 use mathlib.Core.List.{List, map}
 use lib.ListN.{length}
-use Rattle.labelling.specs.Names.{namesOf}
+use Rattle.naming.specs.Names.{namesOf}
 
 -- how many names each row has
 unfoldable pub lensOf : List (List ℕ) → List ℕ

@@ -8,16 +8,16 @@ use native.Mathlib.Omega.{arith}
 use lib.ListN.{length}
 use lib.Dec.{leb, eqb}
 use borrow.Author.Tests.{le-leb, lt-leb, not-true, not-false}
-use Rattle.labelling.specs.Basics.{over}
-use Rattle.labelling.specs.Limits.{anyName, labelSize}
-use Rattle.labelling.specs.Refusals.{Refusal, refuse, check, first, nameAsked, shortOutput}
-use Rattle.labelling.specs.Names.{isName}
+use Rattle.basics.specs.Basics.{over}
+use Rattle.basics.specs.Limits.{anyName, labelSize}
+use Rattle.basics.specs.Refusals.{Refusal, refuse, check, first, nameAsked, shortOutput}
+use Rattle.naming.specs.Names.{isName}
 use Rattle.patterns.specs.Twigs.{nameCheck}
 use Rattle.patterns.specs.Matches.{labelsWords}
 use Rattle.storage.specs.Store.{elements}
-use Rattle.labelling.specs.Outputs as outputs
+use Rattle.basics.specs.Outputs as outputs
 use Rattle.storage.specs.Cutting as model
-use Rattle.labelling.proofs.Refusals.{first-last}
+use Rattle.basics.proofs.Refusals.{first-last}
 use Rattle.refusals.specs.Answers.{verdictOf, filled, refusedBy, listingOf}
 use Rattle.refusals.specs.declared.Listing.{Listing}
 use Rattle.refusals.specs.declared.Refusal as declared

@@ -5,7 +5,7 @@ use mathlib.Core.Bool.{Bool}
 use mathlib.Core.List.{List}
 use native.Mathlib.Omega.{arith}
 use lib.ListN.{getD}
-use Rattle.labelling.specs.Limits.{recordSize, nameWord}
+use Rattle.basics.specs.Limits.{recordSize, nameWord}
 use Rattle.patterns.specs.Matches.{asks}
 use Rattle.storage.specs.Store.{readElement}
 use Rattle.records.specs.Records.{recordAt}

@@ -5,8 +5,8 @@ use mathlib.Core.List.{List, [], _∷_, _++_, append-assoc}
 use native.Mathlib.Omega.{arith}
 use lib.ListN.{length, take, drop, length-append, take-append-drop}
 use lib.Seq.{drop-drop}
-use Rattle.labelling.specs.Basics.{over, joined}
-use Rattle.labelling.specs.Limits.{labelSize, maxDepth}
+use Rattle.basics.specs.Basics.{over, joined}
+use Rattle.basics.specs.Limits.{labelSize, maxDepth}
 use Rattle.labelling.specs.Labels.{Label, labelWords}
 use Rattle.patterns.specs.Matches.{labelsWords}
 use Rattle.labelling.proofs.LabelWords.{length-labelWords}

@@ -6,14 +6,14 @@ use mathlib.Core.Option.{none}
 use native.Mathlib.Omega.{arith}
 use lib.ListN.{length, take, drop}
 use lib.Dec.{T}
-use Rattle.labelling.specs.Basics.{_∈_}
-use Rattle.labelling.specs.Limits.{maxDepth, labelSize, recordSize}
-use Rattle.labelling.specs.Names.{Clues, cluesOf}
+use Rattle.basics.specs.Basics.{_∈_}
+use Rattle.basics.specs.Limits.{maxDepth, labelSize, recordSize}
+use Rattle.naming.specs.Names.{Clues, cluesOf}
 use Rattle.patterns.specs.Matches.{labelsWords}
 use Rattle.storage.specs.Store.{Element, readElement, records, elements, laidOut, fault}
 use Rattle.storage.specs.Cutting.{stream}
 use Rattle.storage.proofs.Faults.{fault-cons, sound-check}
-use Rattle.labelling.proofs.Lists.{member-at}
+use Rattle.basics.proofs.Lists.{member-at}
 use Rattle.patterns.proofs.MatchWords.{length-labelsWords}
 use Rattle.storage.proofs.Relaid.{sound-laid}
 use Rattle.storage.proofs.Sizes.{length-elements-read}

@@ -6,12 +6,12 @@ use mathlib.Core.List.{List, [], _∷_, map}
 use native.Mathlib.Numerals.{add-one}
 use native.Mathlib.Omega.{arith}
 use lib.ListN.{length, drop, drop-of-length-le}
-use Rattle.labelling.specs.Basics.{keep}
+use Rattle.basics.specs.Basics.{keep}
 use Rattle.labelling.specs.Labels.{Label}
 use Rattle.patterns.specs.Matches.{asks}
 use Rattle.storage.specs.Store.{Element, readElement, elements}
 use Rattle.storage.specs.Cutting.{stream}
-use Rattle.labelling.proofs.Scans.{from-cons}
+use Rattle.basics.proofs.Scans.{from-cons}
 use Rattle.storage.proofs.Sizes.{length-elements-read}
 use Rattle.records.specs.Records.{recordAt}
 use Rattle.records.proofs.Elements.{element-at}

@@ -6,8 +6,8 @@ use mathlib.Core.List.{List}
 use native.Mathlib.Omega.{arith}
 use lib.ListN.{length, take, drop}
 use lib.Seq.{take-take}
-use Rattle.labelling.specs.Basics.{over}
-use Rattle.labelling.specs.Limits.{labelSize, recordSize}
+use Rattle.basics.specs.Basics.{over}
+use Rattle.basics.specs.Limits.{labelSize, recordSize}
 use Rattle.patterns.specs.Matches.{asks, labelsWords}
 use Rattle.storage.specs.Store.{readElement, elements}
 use Rattle.storage.specs.Cutting.{stream}

@@ -7,12 +7,12 @@ use mathlib.Core.Option.{none, some}
 use native.Mathlib.Omega.{arith}
 use lib.ListN.{replicate}
 use lib.Dec.{leb→le, le→leb}
-use Rattle.labelling.specs.Basics.{elim?, all}
-use Rattle.labelling.specs.Limits.{maxName, labelSize}
-use Rattle.labelling.specs.Refusals.{refuse, check, first, badTable, badRoot, notLabel}
-use Rattle.labelling.specs.Names.{cluesOf, goodRow, tableCheck, isName, rootCheck}
+use Rattle.basics.specs.Basics.{elim?, all}
+use Rattle.basics.specs.Limits.{maxName, labelSize}
+use Rattle.basics.specs.Refusals.{refuse, check, first, badTable, badRoot, notLabel}
+use Rattle.naming.specs.Names.{cluesOf, goodRow, tableCheck, isName, rootCheck}
 use Rattle.labelling.specs.Labels as model
-use Rattle.labelling.proofs.Refusals.{check-passed, check-failed, first-here, first-rest, first-last}
+use Rattle.basics.proofs.Refusals.{check-passed, check-failed, first-here, first-rest, first-last}
 use Rattle.labels.proofs.Steps.{known-label, unknown-label}
 use Rattle.refusals.specs.declared.Refusal.{Refusal}
 use Rattle.refusals.specs.declared.Verdict.{Verdict}

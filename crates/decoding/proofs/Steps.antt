@@ -7,12 +7,12 @@ use native.Mathlib.Numerals.{add-one}
 use native.Mathlib.Omega.{arith}
 use lib.ListN.{length, getD, take, drop, set, replicate, take-append-drop, length-append}
 use lib.Seq.{take-all, take-suc, set-at}
-use Rattle.labelling.specs.Basics.{elim?, last}
-use Rattle.labelling.specs.Limits.{maxDepth, labelSize}
-use Rattle.labelling.specs.Refusals.{emptyClue}
-use Rattle.labelling.specs.Names.{Clues, led}
+use Rattle.basics.specs.Basics.{elim?, last}
+use Rattle.basics.specs.Limits.{maxDepth, labelSize}
+use Rattle.basics.specs.Refusals.{emptyClue}
+use Rattle.naming.specs.Names.{Clues, led}
 use Rattle.labelling.specs.Labels.{Label, path, stuck, decode, pathCheck, namesIn}
-use Rattle.labelling.proofs.LabelOrder.{last-snoc}
+use Rattle.basics.proofs.Lists.{last-snoc}
 use Rattle.labelling.proofs.Decode.{further, decode-snoc, decode-child, stuck-more}
 use Rattle.names.specs.Answers.{childOf}
 use Rattle.names.proofs.Children.{child-name, child-nowhere}

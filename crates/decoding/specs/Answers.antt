@@ -1,8 +1,8 @@
 -- What the answers of the code tell, by the definitions of `labelling`.
 use Prim.Native.Nat.{ℕ}
 use lib.ListN.{replicate}
-use Rattle.labelling.specs.Limits.{labelSize}
-use Rattle.labelling.specs.Refusals.{refuse}
+use Rattle.basics.specs.Limits.{labelSize}
+use Rattle.basics.specs.Refusals.{refuse}
 use Rattle.labelling.specs.Labels as model
 use Rattle.refusals.specs.Answers.{verdictOf}
 use Rattle.decoding.specs.declared.Decoding.{Decoding}

@@ -12,7 +12,7 @@ use table_checks::table_check;
 ghost use mathlib.Core.Path.{_≡_};
 ghost use Prim.Native.Nat.{_≤_};
 ghost use lib.ListN.{length};
-ghost use Rattle.labelling.specs.Names.{cluesOf};
+ghost use Rattle.naming.specs.Names.{cluesOf};
 ghost use Rattle.labelling.specs.Labels as model;
 ghost use Rattle.decoding.specs.Answers.{refusedBy, decodedBy, decodingOf};
 

@@ -7,13 +7,13 @@ use mathlib.Core.Option.{none, some}
 use native.Mathlib.Omega.{arith}
 use lib.ListN.{length}
 use lib.Dec.{ltb→lt, lt→ltb}
-use Rattle.labelling.specs.Basics.{elim?}
-use Rattle.labelling.specs.Refusals.{Refusal, refuse, first, noRecord, rootStays}
-use Rattle.labelling.specs.Names.{cluesOf}
+use Rattle.basics.specs.Basics.{elim?}
+use Rattle.basics.specs.Refusals.{Refusal, refuse, first, noRecord, rootStays}
+use Rattle.naming.specs.Names.{cluesOf}
 use Rattle.labelling.specs.Labels.{Label, labelOf}
 use Rattle.storage.specs.Store.{elements, find}
 use Rattle.storage.specs.Updates.{rootStaysCheck, foundCheck, deletionRefusal, delete}
-use Rattle.labelling.proofs.Refusals.{check-passed, check-failed, first-here, first-next}
+use Rattle.basics.proofs.Refusals.{check-passed, check-failed, first-here, first-next}
 use Rattle.refusals.specs.Answers.{verdictOf}
 use Rattle.refusals.specs.declared.Refusal.{Refusal as Shown}
 use Rattle.refusals.specs.declared.Verdict.{Verdict}

@@ -7,9 +7,9 @@ use mathlib.Core.Option.{some, none}
 use native.Mathlib.Omega.{arith}
 use lib.ListN.{length, take, drop, replicate, length-append, length-drop, length-replicate}
 use lib.Seq.{length-take-le, take-take}
-use Rattle.labelling.specs.Basics.{over}
-use Rattle.labelling.specs.Limits.{recordSize}
-use Rattle.labelling.specs.Names.{Clues}
+use Rattle.basics.specs.Basics.{over}
+use Rattle.basics.specs.Limits.{recordSize}
+use Rattle.naming.specs.Names.{Clues}
 use Rattle.labelling.specs.Labels.{Label}
 use Rattle.storage.specs.Store.{Element, storeWords, elements, soundCheck}
 use Rattle.storage.specs.Updates.{without}

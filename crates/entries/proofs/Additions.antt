@@ -5,8 +5,8 @@ use mathlib.Core.Bool.{true}
 use mathlib.Core.List.{List, [], _∷_, _++_}
 use mathlib.Core.Option.{some}
 use lib.ListN.{length, getD, set, length-set}
-use Rattle.labelling.specs.Basics.{elim?}
-use Rattle.labelling.specs.Limits.{maxDepth, recordSize, nextWord}
+use Rattle.basics.specs.Basics.{elim?}
+use Rattle.basics.specs.Limits.{maxDepth, recordSize, nextWord}
 use Rattle.labelling.specs.Labels.{Label, labelOf, labelWords, isLabel}
 use Rattle.storage.specs.Store.{elementWords, readElement, elements}
 use Rattle.storage.specs.Updates.{spaceCheck}

@@ -7,8 +7,8 @@ use native.Mathlib.Omega.{arith}
 use native.Mathlib.Numerals.{add-one}
 use lib.ListN.{length, getD, drop, set, replicate, length-append}
 use lib.Seq.{set-append-seam}
-use Rattle.labelling.specs.Basics.{over}
-use Rattle.labelling.specs.Limits.{maxDepth, labelSize}
+use Rattle.basics.specs.Basics.{over}
+use Rattle.basics.specs.Limits.{maxDepth, labelSize}
 use Rattle.labelling.specs.Labels.{Label, labelOf, labelWords, isLabel}
 use Rattle.storage.specs.Store.{elementWords}
 use Rattle.labelling.proofs.LabelWords.{isLabel-iff, labelWords-labelOf}

@@ -7,13 +7,13 @@ use mathlib.Core.Option.{some, none}
 use native.Mathlib.Omega.{arith}
 use lib.ListN.{length, take, drop, set, length-append, length-drop, length-set, length-map}
 use lib.Seq.{length-take-le, take-take, take-set-lt, drop-set-lt}
-use Rattle.labelling.specs.Basics.{over}
-use Rattle.labelling.specs.Limits.{maxDepth, recordSize, nextWord}
-use Rattle.labelling.specs.Names.{Clues}
+use Rattle.basics.specs.Basics.{over}
+use Rattle.basics.specs.Limits.{maxDepth, recordSize, nextWord}
+use Rattle.naming.specs.Names.{Clues}
 use Rattle.labelling.specs.Labels.{Label}
 use Rattle.storage.specs.Store.{Element, elementWords, storeWords, elements, elementAt, soundCheck}
 use Rattle.storage.specs.Updates.{given, raised, placed, entered}
-use Rattle.labelling.proofs.Lists.{for-map}
+use Rattle.basics.proofs.Lists.{for-map}
 use Rattle.storage.proofs.Sizes.{length-elements-read}
 use Rattle.storage.proofs.Words.{length-elementWords}
 use Rattle.moving.specs.Moves.{inserted}

@@ -4,14 +4,14 @@ use mathlib.Core.Path.{_≡_, refl, sym, ap, ap₂, _∙_}
 use mathlib.Core.List.{List, [], _∷_, _++_}
 use mathlib.Core.Option.{Option, none, some}
 use lib.ListN.{length, replicate}
-use Rattle.labelling.specs.Basics.{elim?, over}
-use Rattle.labelling.specs.Limits.{maxDepth, labelSize}
-use Rattle.labelling.specs.Refusals.{Refusal, refuse, first, noRecord}
-use Rattle.labelling.specs.Names.{cluesOf}
+use Rattle.basics.specs.Basics.{elim?, over}
+use Rattle.basics.specs.Limits.{maxDepth, labelSize}
+use Rattle.basics.specs.Refusals.{Refusal, refuse, first, noRecord}
+use Rattle.naming.specs.Names.{cluesOf}
 use Rattle.labelling.specs.Labels.{Label, labelOf, labelWords}
 use Rattle.storage.specs.Store.{Element, storeWords, readElement, elements, find, elementAt, soundCheck}
 use Rattle.storage.specs.Updates as model
-use Rattle.labelling.proofs.Refusals.{first-here, first-next}
+use Rattle.basics.proofs.Refusals.{first-here, first-next}
 use Rattle.storage.proofs.Parents.{parent-nine}
 use Rattle.storage.proofs.Sizes.{space-iff}
 use Rattle.refusals.specs.Answers.{verdictOf}

@@ -10,15 +10,15 @@ use native.Mathlib.Decide.{decLt}
 use lib.ListN.{length, getD}
 use lib.Dec.{T, leb, leb→le, le→leb}
 use borrow.Author.Tests.{lt-ltb}
-use Rattle.labelling.specs.Basics.{_∈_, elim?}
-use Rattle.labelling.specs.Limits.{maxComponent, maxDepth, recordSize, nameWord, nextWord}
-use Rattle.labelling.specs.Refusals.{Refusal, notInClue, tooDeep, noNumber}
-use Rattle.labelling.specs.Names.{Clues, cluesOf, placeIn}
+use Rattle.basics.specs.Basics.{_∈_, elim?}
+use Rattle.basics.specs.Limits.{maxComponent, maxDepth, recordSize, nameWord, nextWord}
+use Rattle.basics.specs.Refusals.{Refusal, notInClue, tooDeep, noNumber}
+use Rattle.naming.specs.Names.{Clues, cluesOf, placeIn}
 use Rattle.labelling.specs.Labels.{Label}
 use Rattle.storage.specs.Store.{Element, readElement}
 use Rattle.storage.specs.Updates as model
-use Rattle.labelling.proofs.Lists.{member-at}
-use Rattle.labelling.proofs.NameTables.{placed-at, placeIn-none}
+use Rattle.basics.proofs.Lists.{member-at}
+use Rattle.naming.proofs.NameTables.{placed-at, placeIn-none}
 use Rattle.storage.proofs.Parents.{parent-ten, parent-eleven, parent-twelve, parent-passed, ParentFacts, parentCheck-iff}
 use Rattle.refusals.specs.Answers.{refusalOf, verdictOf}
 use Rattle.refusals.specs.declared.Refusal.{Refusal as Shown}

@@ -9,13 +9,13 @@ use native.Mathlib.Nat.{zero-add, suc-add}
 use lib.ListN.{length, set}
 use lib.Seq.{set-append-left}
 use lib.Dec.{T}
-use Rattle.labelling.specs.Basics.{_∈_, joined, Ascending, one-more}
-use Rattle.labelling.specs.Limits.{maxDepth, recordSize, nextWord}
+use Rattle.basics.specs.Basics.{_∈_, joined, Ascending, one-more}
+use Rattle.basics.specs.Limits.{maxDepth, recordSize, nextWord}
 use Rattle.labelling.specs.Labels.{Label, before, same, labelWords}
 use Rattle.storage.specs.Store.{Element, elementWords, storeWords}
 use Rattle.storage.specs.Updates.{raised}
-use Rattle.labelling.proofs.Tests.{is-true, is-false, Tells, passes as told, fails as untold}
-use Rattle.labelling.proofs.Lists.{here, there}
+use Rattle.basics.proofs.Tests.{is-true, is-false, Tells, passes as told, fails as untold}
+use Rattle.basics.proofs.Lists.{here, there}
 use Rattle.labelling.proofs.LabelOrder.{before-order, same-alike, same?}
 use Rattle.labelling.proofs.LabelWords.{length-labelWords}
 use Rattle.storage.proofs.Words.{Fit, length-elementWords}

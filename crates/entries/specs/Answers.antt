@@ -4,11 +4,11 @@ use mathlib.Core.Bool.{true}
 use mathlib.Core.List.{List, [], _∷_, _++_}
 use mathlib.Core.Option.{Option, none, some}
 use lib.ListN.{length, set, replicate}
-use Rattle.labelling.specs.Basics.{elim?}
-use Rattle.labelling.specs.Limits.{labelSize, recordSize, nextWord}
-use Rattle.labelling.specs.Names.{Clues}
+use Rattle.basics.specs.Basics.{elim?}
+use Rattle.basics.specs.Limits.{labelSize, recordSize, nextWord}
+use Rattle.naming.specs.Names.{Clues}
 use Rattle.labelling.specs.Labels.{Label, labelWords}
-use Rattle.labelling.specs.Refusals.{Refusal}
+use Rattle.basics.specs.Refusals.{Refusal}
 use Rattle.storage.specs.Store.{Element, elementWords, readElement, elements}
 use Rattle.storage.specs.Updates as model
 use Rattle.refusals.specs.Answers.{refusalOf, verdictOf}

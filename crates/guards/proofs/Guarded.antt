@@ -6,7 +6,7 @@ use lib.ListN.{length, getD, set, take, drop, drop-of-length-le, length-take}
 use lib.ListN.{List·getD-eq-default}
 use lib.Seq.{take-all, set-out}
 use native.Mathlib.Nat.{le-of-lt, min-le-left, sub-zero}
-use Rattle.labelling.specs.Basics.{over}
+use Rattle.basics.specs.Basics.{over}
 
 module _ {at : ℕ} (l : List ℕ) (h : length l ≤ at) where
   -- a place behind the end reads as 0

@@ -1,7 +1,7 @@
 // Guards on slices, for the programs that test: a place that is not there reads as 0 and is left alone, and a part is cut where the slice ends.
 ghost use mathlib.Core.Path.{_≡_};
 ghost use lib.ListN.{length, getD, set, take, drop};
-ghost use Rattle.labelling.specs.Basics.{over};
+ghost use Rattle.basics.specs.Basics.{over};
 use words::overwrite;
 
 // The word at a place.

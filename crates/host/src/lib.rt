@@ -2,7 +2,7 @@
 // is told the refusal's place and the call's value. A table is 4,096 bytes, row after row; bytes of another length are refused by 22.
 ghost use mathlib.Core.Path.{_≡_};
 ghost use Rattle.labelling.specs.Labels.{decodeCall, kinshipCall, followsCall};
-ghost use Rattle.labelling.specs.Names.{tableCheck};
+ghost use Rattle.naming.specs.Names.{tableCheck};
 ghost use Rattle.patterns.specs.Twigs.{twigCheck};
 ghost use Rattle.patterns.specs.Matching.{matchCall};
 ghost use Rattle.storage.specs.Updates as updates;

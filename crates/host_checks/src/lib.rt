@@ -2,7 +2,7 @@
 use answers::tell;
 use table_bytes::table_in;
 ghost use mathlib.Core.Path.{_≡_};
-ghost use Rattle.labelling.specs.Names.{tableCheck};
+ghost use Rattle.naming.specs.Names.{tableCheck};
 ghost use Rattle.patterns.specs.Twigs.{twigCheck};
 ghost use Rattle.store_checks.specs.Stores.{storeCheck};
 ghost use Rattle.table_bytes.specs.Rows.{tableIn};

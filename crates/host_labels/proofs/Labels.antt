@@ -5,7 +5,7 @@ use mathlib.Core.Path.{_≡_, ap, _∙_}
 use mathlib.Core.Bool.{Bool, cond}
 use mathlib.Core.List.{List}
 use native.Mathlib.Omega.{arith}
-use Rattle.labelling.specs.Refusals as model
+use Rattle.basics.specs.Refusals as model
 use Rattle.labelling.specs.Labels.{decodeCall}
 use Rattle.refusals.specs.Answers.{refusalOf}
 use Rattle.refusals.specs.declared.Refusal.{Refusal}

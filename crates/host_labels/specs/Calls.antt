@@ -3,7 +3,7 @@ use Prim.Native.Nat.{ℕ}
 use mathlib.Core.Bool.{Bool, cond}
 use mathlib.Core.List.{List}
 use mathlib.Core.Option.{none, some}
-use Rattle.labelling.specs.Refusals.{Reply, value, refused}
+use Rattle.basics.specs.Refusals.{Reply, value, refused}
 use Rattle.answers.specs.Reports.{Report, reportOf}
 
 -- kinship, 0 in a refusal

@@ -3,7 +3,7 @@
 use Prim.Native.Nat.{ℕ}
 use mathlib.Core.Path.{_≡_, ap, _∙_}
 use mathlib.Core.List.{List}
-use Rattle.labelling.specs.Outputs as outputs
+use Rattle.basics.specs.Outputs as outputs
 use Rattle.patterns.specs.Matching.{matchCall}
 use Rattle.storage.specs.Cutting as cutting
 use Rattle.refusals.specs.Answers.{Filled, filled, listingOf}

@@ -1,7 +1,7 @@
 -- What a host program is told of a list that is written.
 use Prim.Native.Nat.{ℕ}
 use mathlib.Core.List.{List}
-use Rattle.labelling.specs.Outputs.{Listing}
+use Rattle.basics.specs.Outputs.{Listing}
 use Rattle.answers.specs.Reports.{Report, reportOf}
 
 -- cutting and matching tell how many labels or matches there are

@@ -5,13 +5,13 @@ use mathlib.Core.Path.{_≡_, sym, ap, _∙_}
 use mathlib.Core.Bool.{cond}
 use mathlib.Core.List.{List}
 use lib.ListN.{length}
-use Rattle.labelling.specs.Basics.{joined}
-use Rattle.labelling.specs.Limits.{tableSize}
-use Rattle.labelling.specs.Refusals as model
-use Rattle.labelling.specs.Names.{fileCheck, readNames}
-use Rattle.labelling.specs.Examples.{benchTable}
-use Rattle.labelling.proofs.Tests.{is-true, is-false, eqb-alike}
-use Rattle.labelling.proofs.NameFiles.{read-refusal}
+use Rattle.basics.specs.Basics.{joined}
+use Rattle.basics.specs.Limits.{tableSize}
+use Rattle.basics.specs.Refusals as model
+use Rattle.naming.specs.Names.{fileCheck, readNames}
+use Rattle.naming.specs.Examples.{benchTable}
+use Rattle.basics.proofs.Tests.{is-true, is-false, eqb-alike}
+use Rattle.naming.proofs.NameFiles.{read-refusal}
 use Rattle.refusals.specs.Answers.{verdictOf}
 use Rattle.refusals.specs.declared.Verdict.{Verdict}
 use Rattle.answers.specs.Reports.{Report, reportBy, reportOf}

@@ -4,11 +4,11 @@ use mathlib.Core.Bool.{Bool, cond}
 use mathlib.Core.List.{List}
 use lib.ListN.{length}
 use lib.Dec.{eqb}
-use Rattle.labelling.specs.Basics.{joined}
-use Rattle.labelling.specs.Limits.{tableSize}
-use Rattle.labelling.specs.Refusals.{refuse, badTable}
-use Rattle.labelling.specs.Names.{readNames}
-use Rattle.labelling.specs.Examples.{benchTable}
+use Rattle.basics.specs.Basics.{joined}
+use Rattle.basics.specs.Limits.{tableSize}
+use Rattle.basics.specs.Refusals.{refuse, badTable}
+use Rattle.naming.specs.Names.{readNames}
+use Rattle.naming.specs.Examples.{benchTable}
 use Rattle.answers.specs.Reports.{Report, reportOf}
 
 -- a lent slice has room for a table, and for nothing else

@@ -7,9 +7,9 @@ use mathlib.Core.Bool.{Bool, true, false, not, _&&_}
 use lib.ListN.{length}
 use lib.Dec.{T}
 use borrow.Author.Tests.{eq-eqb, ne-eqb, not-true, not-false}
-use Rattle.labelling.specs.Refusals.{notLabel}
+use Rattle.basics.specs.Refusals.{notLabel}
 use Rattle.labelling.specs.Labels.{Label, before, shared, within, kinship, follows, labelOf, isLabel, kinshipCall, followsCall}
-use Rattle.labelling.proofs.Tests.{and-iff, is-true, test-equal}
+use Rattle.basics.proofs.Tests.{and-iff, is-true, test-equal}
 use Rattle.labelling.proofs.LabelOrder.{precedes-iff}
 use Rattle.labelling.proofs.Kinship.{shared-comm, follows-iff}
 use Rattle.labelling.proofs.LabelCalls.{kinship-call, kinship-refused, follows-call, follows-refused}

@@ -1,7 +1,7 @@
 -- What the answers of the code tell, by the definitions of `labelling`.
 use Prim.Native.Nat.{ℕ}
 use mathlib.Core.Bool.{Bool}
-use Rattle.labelling.specs.Refusals.{Reply, value, refused}
+use Rattle.basics.specs.Refusals.{Reply, value, refused}
 use Rattle.refusals.specs.Answers.{refusalOf}
 use Rattle.kinship.specs.declared.KinshipAnswer.{KinshipAnswer}
 use Rattle.kinship.specs.declared.KinshipAnswer.the-variants as kinship

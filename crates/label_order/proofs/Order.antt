@@ -10,7 +10,7 @@ use lib.ListN.{length, getD, drop}
 use lib.Dec.{ltb, eqb}
 use borrow.Author.Tests.{eq-eqb, lt-ltb, le-ltb}
 use Rattle.labelling.specs.Labels.{Label, before, shared}
-use Rattle.labelling.proofs.Tests.{Tells, passes, fails, eq?}
+use Rattle.basics.proofs.Tests.{Tells, passes, fails, eq?}
 use Rattle.label_order.proofs.Steps.{before-end, before-prefix, before-less, before-greater}
 
 -- what two labels share leaves their order to the rest

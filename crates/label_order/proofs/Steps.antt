@@ -7,7 +7,7 @@ use native.Mathlib.Omega.{arith}
 use lib.ListN.{length, getD, drop, drop-of-length-le}
 use borrow.Author.Tests.{eq-eqb, ne-eqb, le-ltb, lt-ltb}
 use Rattle.labelling.specs.Labels.{Label, before, shared}
-use Rattle.labelling.proofs.Scans.{from-cons}
+use Rattle.basics.proofs.Scans.{from-cons}
 
 -- nothing is shared with the root's label
 shared-nil : (l : Label) → shared l [] ≡ 0

@@ -8,7 +8,7 @@ use native.Mathlib.Nat.{pos-of-ne-zero, mod-lt, div-add-mod', zero-mul, suc-mul,
 use native.Mathlib.Numerals.{add-one}
 use native.Mathlib.Omega.{arith}
 use Rattle.labelling.specs.Numbers.{number, Least, articleNumber}
-use Rattle.labelling.proofs.Tests.{passes, fails, le?}
+use Rattle.basics.proofs.Tests.{passes, fails, le?}
 use Rattle.labelling.proofs.Number.{least-at, number-least}
 
 -- there is one least number at most

@@ -7,11 +7,11 @@ use Prim.Native.Nat.{ℕ, zero, suc, _+_, _-_, _≤_, _<_}
 use native.Mathlib.Omega.{arith}
 use lib.ListN.{length, getD, take, drop, take-append-drop}
 use lib.Seq.{drop-cons, length-take-le}
-use Rattle.labelling.specs.Basics.{elim?, last}
-use Rattle.labelling.specs.Names.{Clues, led}
+use Rattle.basics.specs.Basics.{elim?, last}
+use Rattle.naming.specs.Names.{Clues, led}
 use Rattle.labelling.specs.Labels.{Label, Decoded, path, stuck, behind, decode, endOf, nameAt}
-use Rattle.labelling.proofs.NameTables.{led-none}
-use Rattle.labelling.proofs.LabelOrder.{last-snoc}
+use Rattle.naming.proofs.NameTables.{led-none}
+use Rattle.basics.proofs.Lists.{last-snoc}
 
 -- what a label decodes to, led on by one component more
 unfoldable pub further : Clues → Decoded → ℕ → Decoded

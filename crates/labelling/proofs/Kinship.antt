@@ -9,7 +9,7 @@ use lib.ListN.{length, take, drop, take-append-drop, length-append}
 use lib.Seq.{length-take-le}
 use lib.Dec.{T, eqb, eqb→eq, eqb·suc-zero}
 use Rattle.labelling.specs.Labels.{Label, before, shared, within, kinship, follows}
-use Rattle.labelling.proofs.Tests.{decide, is-true, is-false, test-equal, eqb-alike, Tells, passes, fails, eq?}
+use Rattle.basics.proofs.Tests.{decide, is-true, is-false, test-equal, eqb-alike, Tells, passes, fails, eq?}
 use Rattle.labelling.proofs.LabelOrder.{before-order, before-more, within-iff, within-self, Precedes, precedes-iff}
 
 -- two labels are alike as far as they share components

@@ -7,13 +7,13 @@ use mathlib.Core.Option.{none, Option, some, Option·none-ne-some, Option·some-
 use Prim.Native.Nat.{ℕ, zero, suc, _≤_}
 use native.Mathlib.Omega.{arith}
 use lib.ListN.{replicate}
-use lib.Dec.{T, leb→le, le→leb}
-use Rattle.labelling.specs.Basics.{elim?}
-use Rattle.labelling.specs.Limits.{maxName, labelSize}
-use Rattle.labelling.specs.Refusals.{check, first, notLabel, value, refused, reply, badRoot, refuse, emptyClue, Refusal}
-use Rattle.labelling.specs.Names.{Clues, rootCheck, isName, tableCheck, cluesOf}
+use lib.Dec.{T, le→leb}
+use Rattle.basics.specs.Basics.{elim?}
+use Rattle.basics.specs.Limits.{maxName, labelSize}
+use Rattle.basics.specs.Refusals.{check, first, notLabel, value, refused, reply, badRoot, refuse, emptyClue, Refusal}
+use Rattle.naming.specs.Names.{Clues, rootCheck, isName, tableCheck, cluesOf}
 use Rattle.labelling.specs.Labels.{kinship, follows, labelOf, isLabel, labelCheck, kinshipCall, followsCall, decodeCall, decodeRefusal, pathCheck, Label, Decoded, decode, path, labelWords, namesIn, stuck}
-use Rattle.labelling.proofs.Refusals.{check-passed, check-iff}
+use Rattle.basics.proofs.Refusals.{check-passed, check-iff}
 use Rattle.labelling.proofs.LabelWords.{GoodLabel, IsLabel, isLabel-iff, labelOf-labelWords, labelWords-good}
 use Rattle.labelling.proofs.Decode.{Starts, starts, stuck-path, BelowEmpty, stuck-iff}
 
@@ -89,11 +89,6 @@ module _ (rows : List (List ℕ)) (root : ℕ) (l : Label) (table : tableCheck r
       decodeCall rows root (labelWords l) ≡ record { refusal = refuse emptyClue i; names = replicate labelSize 0 }
   unfolding decodeCall pathCheck elim?
   decode-stuck i e = rw (decode-refusal, labelOf-labelWords l, e)
-
--- a root name is accepted exactly if it is at most 63
-pub rootCheck-iff : (root : ℕ) → rootCheck root ≡ none ↔ (root ≤ maxName)
-unfolding rootCheck isName
-rootCheck-iff root = check-iff (isName root) badRoot 0 (leb→le root maxName, le→leb root maxName)
 
 -- words are accepted as a label exactly if the facts of refusal 15 hold
 pub labelCheck-iff : (ws : List ℕ) → labelCheck ws ≡ none ↔ IsLabel ws

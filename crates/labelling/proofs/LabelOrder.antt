@@ -6,12 +6,13 @@ use mathlib.Core.List.{[], _∷_, _++_, append-nil, append-assoc}
 use Prim.Native.Nat.{ℕ, suc, _-_, _<_}
 use native.Mathlib.Omega.{arith}
 use lib.ListN.{length, take, length-append}
-use lib.Seq.{take-suc, take-length, take-at, getD-at}
+use lib.Seq.{take-suc, take-length, take-at}
 use lib.Dec.{T, ltb, eqb, eqb-refl, eqb·zero-suc, eqb·suc-suc, ltb→lt, lt→ltb}
-use Rattle.labelling.specs.Basics.{last}
+use Rattle.basics.specs.Basics.{last}
 use Rattle.labelling.specs.Labels.{Label, before, shared, within, same, above}
-use Rattle.labelling.proofs.Tests.{and-iff, Alike, eqb-alike, Tells, tells}
-use Rattle.labelling.proofs.Orders.{Order, OneWay, one-way, lex-iff, lex-order, ltb-order}
+use Rattle.basics.proofs.Tests.{and-iff, Alike, eqb-alike, Tells, tells}
+use Rattle.basics.proofs.Lists.{last-snoc}
+use Rattle.basics.proofs.Orders.{Order, OneWay, one-way, lex-iff, lex-order, ltb-order}
 
 -- label order is a strict total order
 pub before-order : Order before
@@ -173,11 +174,6 @@ above-last l h =
 pub above-snoc : (l : Label) (k : ℕ) → above (l ++ (k ∷ [])) ≡ l
 unfolding above
 above-snoc l k = take-at l (k ∷ []) (length (l ++ (k ∷ [])) - 1) (omega (arith, length-append l (k ∷ [])))
-
--- the last component of a child is the one it adds
-pub last-snoc : (l : Label) (k : ℕ) → last (l ++ (k ∷ [])) ≡ k
-unfolding last
-last-snoc l k = getD-at l k [] 0 (length (l ++ (k ∷ [])) - 1) (omega (arith, length-append l (k ∷ [])))
 
 -- equal children have equal parents
 pub snoc-parent : (l m : Label) (j k : ℕ) → l ++ (j ∷ []) ≡ m ++ (k ∷ []) → l ≡ m

@@ -8,11 +8,11 @@ use native.Mathlib.Omega.{arith}
 use lib.ListN.{length, getD, take, drop, replicate, take-append-drop, length-append, length-replicate, length-take, length-drop}
 use lib.Seq.{take-at, drop-at, take-take, length-take-le, getD-take, getD-drop}
 use lib.Dec.{T, leb, eqb, leb→le, le→leb, eqb-refl}
-use Rattle.labelling.specs.Basics.{all}
-use Rattle.labelling.specs.Limits.{maxComponent, maxDepth, labelSize}
+use Rattle.basics.specs.Basics.{all}
+use Rattle.basics.specs.Limits.{maxComponent, maxDepth, labelSize}
 use Rattle.labelling.specs.Labels.{Label, isComponent, labelOf, labelWords, isLabel}
-use Rattle.labelling.proofs.Tests.{and-iff, eqb-alike, and-facts}
-use Rattle.labelling.proofs.Lists.{all-at}
+use Rattle.basics.proofs.Tests.{and-iff, eqb-alike, and-facts}
+use Rattle.basics.proofs.Lists.{all-at}
 
 -- zeros, and nothing else, pass the test of being zeros
 zeros-iff : (l : List ℕ) → T (all (λ x. eqb x 0) l) ↔ (l ≡ replicate (length l) 0)

@@ -1,18 +1,4 @@
--- Tests, orders, lists, checks, outputs.
-pub mod Tests
-pub mod Zeros
-pub mod Orders
-pub mod Lists
-pub mod Scans
-pub mod Ranges
-pub mod Refusals
-pub mod Outputs
--- Names and numbers.
-pub mod Once
-pub mod NameTables
-pub mod NamePairs
-pub mod PairRefusals
-pub mod NameFiles
+-- Numbers.
 pub mod Number
 pub mod Article
 -- Labels.
@@ -24,4 +10,3 @@ pub mod LabelCalls
 -- Examples.
 pub mod Computing
 pub mod Examples
-pub mod RefusalChecks

@@ -7,10 +7,10 @@ use Prim.Native.Nat.{ℕ, suc, _+_, _-_, _*_, _/_, _%_, _≤_, _<_}
 use native.Mathlib.Nat.{mod-lt, mod-eq-of-lt, div-add-mod', mul-add-mod-self-right, suc-mul, mul-le-mul-right, lt-of-mul-lt-mul-right}
 use native.Mathlib.Omega.{arith}
 use lib.ListN.{length}
-use Rattle.labelling.specs.Names.{placeIn, led}
+use Rattle.naming.specs.Names.{placeIn, led}
 use Rattle.labelling.specs.Numbers.{number, Least}
-use Rattle.labelling.proofs.Tests.{passes, fails, le?}
-use Rattle.labelling.proofs.NameTables.{placed-at}
+use Rattle.basics.proofs.Tests.{passes, fails, le?}
+use Rattle.naming.proofs.NameTables.{placed-at}
 
 -- it stands q rounds up, where q is the first round that does
 pub least-at : (n k f q : ℕ) → k < n → f ≤ q * n + k → q * n + k < f + n → Least n k f (q * n + k)

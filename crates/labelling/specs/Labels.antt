@@ -5,10 +5,10 @@ use mathlib.Core.Option.{Option, none, some}
 use Prim.Native.Nat.{ℕ, suc, _+_, _-_}
 use lib.ListN.{length, getD, take, drop, replicate}
 use lib.Dec.{ltb, leb, eqb}
-use Rattle.labelling.specs.Basics.{elim?, all, last, lex}
-use Rattle.labelling.specs.Limits.{maxComponent, maxDepth, labelSize}
-use Rattle.labelling.specs.Refusals.{Refusal, refuse, check, first, notLabel, emptyClue, Reply, reply}
-use Rattle.labelling.specs.Names.{Clues, cluesOf, led, tableCheck, rootCheck}
+use Rattle.basics.specs.Basics.{elim?, all, last, lex}
+use Rattle.basics.specs.Limits.{maxComponent, maxDepth, labelSize}
+use Rattle.basics.specs.Refusals.{Refusal, refuse, check, first, notLabel, emptyClue, Reply, reply}
+use Rattle.naming.specs.Names.{Clues, cluesOf, led, tableCheck, rootCheck}
 
 -- a label: its components
 abbrev pub Label : Type 0

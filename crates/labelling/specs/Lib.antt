@@ -1,11 +1,5 @@
--- Names, labels and numbers.
-pub mod Basics
-pub mod Limits
-pub mod Refusals
-pub mod Outputs
-pub mod Names
+-- Numbers and labels.
 pub mod Numbers
 pub mod Labels
 -- Examples.
 pub mod Examples
-pub mod RefusalChecks

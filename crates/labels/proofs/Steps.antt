@@ -9,12 +9,12 @@ use native.Mathlib.Nat.{add-sub-cancel}
 use lib.ListN.{length, getD, take, drop}
 use lib.Dec.{T}
 use borrow.Author.Tests.{eq-eqb, ne-eqb, le-leb, lt-leb, not-true, not-false}
-use Rattle.labelling.specs.Basics.{all}
-use Rattle.labelling.specs.Limits.{maxComponent, maxDepth, labelSize}
-use Rattle.labelling.specs.Refusals.{check, refuse, notLabel}
+use Rattle.basics.specs.Basics.{all}
+use Rattle.basics.specs.Limits.{maxComponent, maxDepth, labelSize}
+use Rattle.basics.specs.Refusals.{check, refuse, notLabel}
 use Rattle.labelling.specs.Labels.{Label, isComponent, labelOf, isLabel, labelCheck}
 use Rattle.labelling.proofs.LabelWords.{IsLabel, isLabel-iff, labelOf-good}
-use Rattle.labelling.proofs.Scans.{tail-is}
+use Rattle.basics.proofs.Scans.{tail-is}
 use Rattle.refusals.specs.Answers.{verdictOf}
 use Rattle.refusals.specs.declared.Verdict.{Verdict}
 use Rattle.refusals.specs.declared.Verdict.the-variants as verdict

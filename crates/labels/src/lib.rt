@@ -7,7 +7,7 @@ ghost use mathlib.Core.Bool.{true};
 ghost use Prim.Native.Nat.{_≤_, _<_};
 ghost use mathlib.Core.List.{[]};
 ghost use lib.ListN.{length, take, drop};
-ghost use Rattle.labelling.specs.Basics.{all};
+ghost use Rattle.basics.specs.Basics.{all};
 ghost use Rattle.labelling.specs.Labels as model;
 ghost use Rattle.refusals.specs.Answers.{verdictOf};
 ghost use Rattle.labels.specs.Words.{isZero};

@@ -11,9 +11,9 @@ use lib.ListN.{length, getD}
 use lib.Bits.{bitOr}
 use lib.Dec.{T, eqb}
 use borrow.Author.Tests.{eq-eqb, ne-eqb, le-leb, leb-true, eqb-true}
-use Rattle.labelling.specs.Limits.{maxComponent, maxDepth, labelSize}
+use Rattle.basics.specs.Limits.{maxComponent, maxDepth, labelSize}
 use Rattle.labelling.specs.Labels.{isLabel}
-use Rattle.labelling.proofs.Tests.{is-true, is-false}
+use Rattle.basics.proofs.Tests.{is-true, is-false}
 use Rattle.labelling.proofs.LabelWords.{IsLabel, isLabel-iff}
 use Rattle.layouts.specs.Words.{wordFits, wordsFit}
 use Rattle.layouts.proofs.Words.{word-used, word-unused, words-start, words-on, words-end, words-each, words-all}

@@ -11,11 +11,11 @@ use lib.ListN.{length, getD, take, drop, length-drop}
 use lib.Seq.{drop-drop, length-take-le}
 use lib.Dec.{T, eqb, ltb→lt}
 use borrow.Author.Tests.{lt-ltb}
-use Rattle.labelling.specs.Basics.{all}
+use Rattle.basics.specs.Basics.{all}
 use Rattle.labelling.specs.Labels.{Label, shared}
-use Rattle.labelling.proofs.Tests.{and-iff, Tells, passes, fails, eq?}
-use Rattle.labelling.proofs.Scans.{from-cons}
-use Rattle.labelling.proofs.Zeros.{trailing-above, trailing-below}
+use Rattle.basics.proofs.Tests.{and-iff, Tells, passes, fails, eq?}
+use Rattle.basics.proofs.Scans.{from-cons}
+use Rattle.basics.proofs.Zeros.{trailing-above, trailing-below}
 use Rattle.layouts.specs.Fours.{isWord, joined}
 
 -- two numbers that differ in no bit are the same

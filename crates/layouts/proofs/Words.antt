@@ -13,9 +13,9 @@ use lib.ListN.{getD, getD-replicate}
 use lib.Seq.{getD-take, getD-drop}
 use lib.Dec.{T, eqb, leb}
 use borrow.Author.Tests.{eq-eqb, ne-eqb, le-leb, lt-leb}
-use Rattle.labelling.specs.Limits.{maxComponent, maxDepth, labelSize}
+use Rattle.basics.specs.Limits.{maxComponent, maxDepth, labelSize}
 use Rattle.labelling.specs.Labels.{isComponent}
-use Rattle.labelling.proofs.Tests.{is-true, and-iff, or-zero}
+use Rattle.basics.proofs.Tests.{is-true, and-iff, or-zero}
 use Rattle.layouts.specs.Words.{wordFits, largestWords, restFits, unusedWords, wordsFit}
 
 -- a word by its place

@@ -4,7 +4,7 @@ use mathlib.Core.List.{List, _++_}
 use Prim.Native.Nat.{ℕ, zero, suc, _+_}
 use lib.ListN.{getD, replicate}
 use lib.Dec.{leb, eqb}
-use Rattle.labelling.specs.Limits.{maxComponent, labelSize}
+use Rattle.basics.specs.Limits.{maxComponent, labelSize}
 use Rattle.labelling.specs.Labels.{isComponent}
 
 -- word w of a label of some depth: a used component is at most 65,534, an unused one 0

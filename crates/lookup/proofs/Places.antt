@@ -9,14 +9,14 @@ use native.Mathlib.Omega.{arith}
 use native.Mathlib.Decide.{decLt}
 use lib.ListN.{length, getD, take, drop, length-take, length-drop}
 use lib.Dec.{T}
-use Rattle.labelling.specs.Basics.{_∈_, elim?, keep, Ascending, none-left, one-more}
-use Rattle.labelling.specs.Limits.{maxDepth, recordSize}
-use Rattle.labelling.specs.Names.{Clues}
+use Rattle.basics.specs.Basics.{_∈_, elim?, keep, Ascending, none-left, one-more}
+use Rattle.basics.specs.Limits.{maxDepth, recordSize}
+use Rattle.naming.specs.Names.{Clues}
 use Rattle.labelling.specs.Labels.{Label, before, within, same, labelOf}
 use Rattle.storage.specs.Store.{Element, readElement, records, elements, find, soundCheck}
 use Rattle.storage.specs.Updates.{placed, without}
-use Rattle.labelling.proofs.Tests.{or-iff, and-iff, decide, is-true, is-false, Tells, passes as told, fails as untold}
-use Rattle.labelling.proofs.Lists.{here, member-at}
+use Rattle.basics.proofs.Tests.{or-iff, and-iff, decide, is-true, is-false, Tells, passes as told, fails as untold}
+use Rattle.basics.proofs.Lists.{here, member-at}
 use Rattle.labelling.proofs.LabelOrder.{before-order, before-one-way, before-extend, extend-before, within-iff, within-self, same?}
 use Rattle.storage.proofs.Sizes.{length-elements-read}
 use Rattle.storage.proofs.Faults.{sound-check}

@@ -8,10 +8,10 @@ use native.Mathlib.Omega.{arith}
 use lib.ListN.{length, getD}
 use lib.Dec.{T, eqb}
 use borrow.Author.Tests.{not-true, not-false}
-use Rattle.labelling.specs.Limits.{maxDepth, recordSize}
+use Rattle.basics.specs.Limits.{maxDepth, recordSize}
 use Rattle.labelling.specs.Labels.{Label, before, shared, within, same, labelOf}
 use Rattle.storage.specs.Store.{Element, readElement, elements}
-use Rattle.labelling.proofs.Tests.{and-iff, eqb-alike}
+use Rattle.basics.proofs.Tests.{and-iff, eqb-alike}
 use Rattle.labelling.proofs.LabelOrder.{same-alike}
 use Rattle.labelling.proofs.Kinship.{shared-self, shared-comm}
 use Rattle.storage.proofs.Sizes.{length-elements-read}

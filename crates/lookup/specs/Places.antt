@@ -4,8 +4,8 @@ use mathlib.Core.List.{List, [], _∷_}
 use mathlib.Core.Option.{Option, none, some, Option·map}
 use Prim.Native.Nat.{ℕ, suc, _*_, _<_, _≤_}
 use lib.ListN.{length, getD}
-use Rattle.labelling.specs.Basics.{Ascending}
-use Rattle.labelling.specs.Limits.{maxDepth, recordSize}
+use Rattle.basics.specs.Basics.{Ascending}
+use Rattle.basics.specs.Limits.{maxDepth, recordSize}
 use Rattle.labelling.specs.Labels.{Label, before, within, same}
 use Rattle.storage.specs.Store.{Element, elements}
 use Rattle.storage.proofs.SoundStore.{ahead}

@@ -8,15 +8,15 @@ use mathlib.Core.Option.{Option, none, some}
 use native.Mathlib.Omega.{arith}
 use lib.ListN.{length, getD}
 use borrow.Author.Tests.{le-leb, not-true}
-use Rattle.labelling.specs.Basics.{all, total, joined, over}
-use Rattle.labelling.specs.Limits.{labelSize, maxElements}
-use Rattle.labelling.specs.Refusals.{Refusal, first, check}
-use Rattle.labelling.specs.Names.{cluesOf}
+use Rattle.basics.specs.Basics.{all, total, joined, over}
+use Rattle.basics.specs.Limits.{labelSize, maxElements}
+use Rattle.basics.specs.Refusals.{Refusal, first, check}
+use Rattle.naming.specs.Names.{cluesOf}
 use Rattle.patterns.specs.Twigs.{readTwig, twigCheck, wanted, leafNames}
 use Rattle.patterns.specs.Matches.{matchWords}
-use Rattle.labelling.specs.Outputs.{listed, roomCheck}
+use Rattle.basics.specs.Outputs.{listed, roomCheck}
 use Rattle.patterns.specs.Matching.{labelsCheck, matchesOf, matchRefusal, matchCall}
-use Rattle.labelling.proofs.Refusals.{first-here, first-rest, first-last, first-next}
+use Rattle.basics.proofs.Refusals.{first-here, first-rest, first-last, first-next}
 use Rattle.refusals.specs.Answers.{verdictOf, filled, refusedBy, listingOf}
 use Rattle.refusals.specs.declared.Listing.{Listing}
 use Rattle.refusals.specs.declared.Refusal as declared

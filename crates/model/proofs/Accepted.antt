@@ -5,15 +5,15 @@ use mathlib.Core.List.{List, Memᴰ·cast, Memᴰ·map, _++_, _∷_, []}
 use mathlib.Core.Option.{none}
 use Prim.Native.Nat.{ℕ, _+_}
 use lib.ListN.{length}
-use Rattle.labelling.specs.Names.{cluesOf}
+use Rattle.naming.specs.Names.{cluesOf}
 use Rattle.labelling.specs.Labels.{Label, same, labelOf, decodeCall}
 use Rattle.patterns.specs.Twigs.{readTwig}
 use Rattle.storage.specs.Updates.{Answer}
 use Rattle.storage.specs.Cutting.{fullList}
 use Rattle.model.specs.Book.{moved, Book, Line, Call, answer, deletion, entry, bookAfter, childLine}
 use Rattle.model.specs.Demand3.{Next, Accepted, DeletionHolds, EntryHolds}
-use Rattle.labelling.proofs.Tests.{is-false, is-true}
-use Rattle.labelling.proofs.Lists.{here, there}
+use Rattle.basics.proofs.Tests.{is-false, is-true}
+use Rattle.basics.proofs.Lists.{here, there}
 use Rattle.labelling.proofs.LabelOrder.{same-alike}
 use Rattle.labelling.proofs.LabelCalls.{decode-call}
 use Rattle.patterns.proofs.TwigBytes.{accepted-twig}

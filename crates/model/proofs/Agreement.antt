@@ -4,16 +4,16 @@ use mathlib.Core.List.{List}
 use mathlib.Core.Option.{Option, none, some}
 use Prim.Native.Nat.{ℕ, _<_, _%_, _+_, _*_}
 use lib.ListN.{length, take}
-use Rattle.labelling.specs.Basics.{elim?, last}
-use Rattle.labelling.specs.Limits.{recordSize}
-use Rattle.labelling.specs.Refusals.{Refusal}
-use Rattle.labelling.specs.Names.{cluesOf}
+use Rattle.basics.specs.Basics.{elim?, last}
+use Rattle.basics.specs.Limits.{recordSize}
+use Rattle.basics.specs.Refusals.{Refusal}
+use Rattle.naming.specs.Names.{cluesOf}
 use Rattle.labelling.specs.Numbers.{number, articleNumber}
 use Rattle.labelling.specs.Labels.{Label}
 use Rattle.storage.specs.Updates.{given}
 use Rattle.model.specs.Book.{lineElement, opened, called, Book, bookWords, deletion, Call, answer, bookAfter, givenOut, entry}
 use Rattle.model.specs.Claims.{NothingDeleted, ArticleNumbers, lastBelow}
-use Rattle.labelling.proofs.NameTables.{placed-at}
+use Rattle.naming.proofs.NameTables.{placed-at}
 use Rattle.labelling.proofs.Article.{article-first, article-agrees}
 use Rattle.labelling.proofs.LabelWords.{labelOf-labelWords}
 use Rattle.model.proofs.InOrder.{lineAt-mem, labels, labels-moved}

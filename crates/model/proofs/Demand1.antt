@@ -5,21 +5,21 @@ use mathlib.Core.Option.{Option, none, some}
 use Prim.Native.Nat.{ℕ, _≤_}
 use native.Mathlib.Omega.{arith}
 use lib.ListN.{length, length-append, replicate, length-replicate}
-use Rattle.labelling.specs.Basics.{elim?}
-use Rattle.labelling.specs.Limits.{labelSize}
-use Rattle.labelling.specs.Refusals.{Refusal, refused, reply}
-use Rattle.labelling.specs.Names.{cluesOf}
+use Rattle.basics.specs.Basics.{elim?}
+use Rattle.basics.specs.Limits.{labelSize}
+use Rattle.basics.specs.Refusals.{Refusal, refused, reply}
+use Rattle.naming.specs.Names.{cluesOf}
 use Rattle.labelling.specs.Labels.{decodeCall, kinshipCall, followsCall, decodeRefusal, labelOf, Decoding, labelCheck, namesIn, Decoded, decode, path, stuck}
 use Rattle.storage.specs.Updates.{delete, enter, newStore}
-use Rattle.labelling.specs.Outputs.{listed}
+use Rattle.basics.specs.Outputs.{listed}
 use Rattle.storage.specs.Cutting.{cut, cutRefusal}
 use Rattle.patterns.specs.Matching.{matchCall, matchRefusal}
 use Rattle.model.specs.Demand1.{Demand1}
-use Rattle.labelling.proofs.Refusals.{first-none, check-none, refused-is}
-use Rattle.labelling.proofs.NameFiles.{read-refusal, refused-table, file-table, file-size, file-rows}
+use Rattle.basics.proofs.Refusals.{first-none, check-none, refused-is}
+use Rattle.naming.proofs.NameFiles.{read-refusal, refused-table, file-table, file-size, file-rows}
 use Rattle.labelling.proofs.Decode.{starts}
 use Rattle.labelling.proofs.LabelWords.{labelOf-good}
-use Rattle.labelling.proofs.Outputs.{length-over, take-over, drop-over, listed-refused, room-iff, listed-refusal}
+use Rattle.basics.proofs.Outputs.{length-over, take-over, drop-over, listed-refused, room-iff, listed-refusal}
 use Rattle.storage.proofs.Updates.{refusal-of, newStore-refused, newStore-slice, enter-refused, enter-slice, delete-refused, delete-slice}
 use Rattle.model.proofs.RefusedBy.{file-by, decoding-by, labels-by, new-store-by, entry-by, deletion-by, cut-by, match-by, print-by}
 

@@ -5,14 +5,14 @@ use mathlib.Core.Option.{none}
 use Prim.Native.Nat.{ℕ, zero, suc}
 use native.Mathlib.Omega.{arith}
 use lib.ListN.{length}
-use Rattle.labelling.specs.Names.{Clues, tableCheck, cluesOf}
+use Rattle.naming.specs.Names.{Clues, tableCheck, cluesOf}
 use Rattle.labelling.specs.Labels.{Label, above}
 use Rattle.patterns.specs.Twigs.{twigCheck, readTwig, wanted}
 use Rattle.storage.specs.Store.{rootOf, sizeCheck, soundCheck, elements, records}
 use Rattle.patterns.specs.Matching.{streamsCheck, dealt, matchCall, matchesOf}
 use Rattle.model.specs.Trees.{namesTo}
 use Rattle.model.specs.Demand2.{Demand2, ListHolds, StoreHolds}
-use Rattle.labelling.proofs.Lists.{for-cons}
+use Rattle.basics.proofs.Lists.{for-cons}
 use Rattle.labelling.proofs.LabelOrder.{above-snoc}
 use Rattle.labelling.proofs.Decode.{path-length}
 use Rattle.patterns.proofs.TwigBytes.{accepted-twig}
@@ -25,7 +25,7 @@ use Rattle.storage.proofs.SoundStore.{store-elements, sound-root, sound-parents
 use Rattle.patterns.proofs.StreamChecks.{streams-accepted, streams-labels}
 use Rattle.storage.proofs.StreamWords.{streams-sound}
 use Rattle.storage.proofs.Listings.{Stored, cut-listed, match-listed}
-use Rattle.labelling.proofs.Outputs.{listed-whole, listed-refusal}
+use Rattle.basics.proofs.Outputs.{listed-whole, listed-refusal}
 use Rattle.model.proofs.Good.{snoc-root}
 use Rattle.model.proofs.Trees.{Has, Rooted, ancestor, decode-names}
 use Rattle.model.proofs.Embeddings.{full-ascending, full-embeddings}

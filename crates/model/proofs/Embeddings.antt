@@ -5,15 +5,15 @@ use mathlib.Core.List.{List, []}
 use Prim.Native.Nat.{ℕ, _<_}
 use lib.ListN.{length, getD}
 use lib.Dec.{T, ltb, lt→ltb, not-T}
-use Rattle.labelling.specs.Basics.{_∈_, elim?, Ascending}
-use Rattle.labelling.specs.Names.{Clues}
+use Rattle.basics.specs.Basics.{_∈_, elim?, Ascending}
+use Rattle.naming.specs.Names.{Clues}
 use Rattle.labelling.specs.Labels.{within}
 use Rattle.patterns.specs.Twigs.{Twig, GoodTwig, nodeAt, isParent, isLeaf}
 use Rattle.patterns.specs.Matches.{Match, IsMatch, asks, fits, earlier}
 use Rattle.storage.specs.Store.{Element}
 use Rattle.storage.specs.Cutting.{streams, fullList}
 use Rattle.model.specs.Trees.{Embedding}
-use Rattle.labelling.proofs.Tests.{and-iff, decide}
+use Rattle.basics.proofs.Tests.{and-iff, decide}
 use Rattle.patterns.proofs.Matches.{leaf-below, matches-ascending, matches-iff}
 use Rattle.storage.proofs.SoundStore.{SoundElements}
 use Rattle.storage.proofs.AskedLabels.{Asked, streams-asked}

@@ -7,13 +7,13 @@ use Prim.Native.Nat.{ℕ, suc, _≤_}
 use native.Mathlib.Omega.{arith}
 use lib.ListN.{length}
 use lib.Dec.{T, eqb, ltb, leb, T-not}
-use Rattle.labelling.specs.Basics.{_∈_, elim?, stands}
-use Rattle.labelling.specs.Refusals.{Refusal, refuse, check, first, fileLength, nameTooHigh, pairAgain, twigLength, twigParent, twigEdge, nameAsked, twigEnd, noRecord, notInClue, tooDeep, noNumber, noSpace, rootStays, notLabel, emptyClue, shortOutput, storeSize, unsound, badStream, badRoot, badTable}
-use Rattle.labelling.specs.Limits.{maxDepth, maxComponent}
-use Rattle.labelling.specs.Names.{Clues, cluesOf, placeIn, Pair, pairs, pairCheck, pairsCheck, fileCheck, tableCheck, rootCheck}
+use Rattle.basics.specs.Basics.{_∈_, elim?, stands}
+use Rattle.basics.specs.Refusals.{Refusal, refuse, check, first, fileLength, nameTooHigh, pairAgain, twigLength, twigParent, twigEdge, nameAsked, twigEnd, noRecord, notInClue, tooDeep, noNumber, noSpace, rootStays, notLabel, emptyClue, shortOutput, storeSize, unsound, badStream, badRoot, badTable}
+use Rattle.basics.specs.Limits.{maxDepth, maxComponent}
+use Rattle.naming.specs.Names.{Clues, cluesOf, placeIn, Pair, pairs, pairCheck, pairsCheck, fileCheck, tableCheck, rootCheck}
 use Rattle.labelling.specs.Numbers.{number}
 use Rattle.labelling.specs.Labels.{Label, labelOf, Decoded, path, stuck, decode, labelCheck, pathCheck, decodeRefusal}
-use Rattle.labelling.specs.Outputs.{roomCheck}
+use Rattle.basics.specs.Outputs.{roomCheck}
 use Rattle.patterns.specs.Twigs.{Twig, readTwig, nameCheck, nodeCheck, nodesCheck, twigCheck}
 use Rattle.patterns.specs.Matching.{streamsCheck, matchRefusal}
 use Rattle.storage.specs.Store.{Element, sizeCheck, soundCheck}
@@ -21,8 +21,8 @@ use Rattle.storage.specs.Updates.{parentCheck, spaceCheck, rootStaysCheck, foun
 use Rattle.storage.specs.Cutting.{cutRefusal}
 use Rattle.printouts.specs.Printing.{storeFileCheck, bufferCheck, printRefusal}
 use Rattle.model.specs.RefusedBy.{RefusedBy, placedNumbers, fileNumbers, decodingNumbers, labelNumbers, newStoreNumbers, entryNumbers, deletionNumbers, cutNumbers, matchNumbers, printNumbers}
-use Rattle.labelling.proofs.Tests.{and-iff, eqb-alike}
-use Rattle.labelling.proofs.Once.{stands-iff}
+use Rattle.basics.proofs.Tests.{and-iff, eqb-alike}
+use Rattle.basics.proofs.Lists.{stands-iff}
 use Rattle.labelling.proofs.Decode.{starts}
 use Rattle.patterns.proofs.StreamFacts.{streamsCheck-refused}
 use Rattle.storage.proofs.Faults.{unsound-number}

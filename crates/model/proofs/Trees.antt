@@ -4,8 +4,8 @@ use mathlib.Core.List.{List, [], _∷_, _++_, append-nil, append-assoc, map, map
 use mathlib.Core.Option.{Option, none, some, Option·some-injective}
 use Prim.Native.Nat.{ℕ}
 use lib.Dec.{T}
-use Rattle.labelling.specs.Basics.{_∈_, elim?}
-use Rattle.labelling.specs.Names.{Clues, led}
+use Rattle.basics.specs.Basics.{_∈_, elim?}
+use Rattle.naming.specs.Names.{Clues, led}
 use Rattle.labelling.specs.Labels.{Label, within, decode, path, behind, nameAt}
 use Rattle.patterns.specs.Matches.{prefixes}
 use Rattle.storage.specs.Store.{Element, find, elementAt}

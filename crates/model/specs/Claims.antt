@@ -5,10 +5,10 @@ use mathlib.Core.List.{List, [], _∷_, map}
 use mathlib.Core.Option.{Option, none, some}
 use Prim.Native.Nat.{ℕ, _+_, _*_, _/_, _%_, _≤_}
 use lib.ListN.{length, take}
-use Rattle.labelling.specs.Basics.{keep, last}
-use Rattle.labelling.specs.Limits.{maxComponent, recordSize}
-use Rattle.labelling.specs.Refusals.{Refusal, noNumber}
-use Rattle.labelling.specs.Names.{cluesOf, placeIn, tableCheck}
+use Rattle.basics.specs.Basics.{keep, last}
+use Rattle.basics.specs.Limits.{maxComponent, recordSize}
+use Rattle.basics.specs.Refusals.{Refusal, noNumber}
+use Rattle.naming.specs.Names.{cluesOf, placeIn, tableCheck}
 use Rattle.labelling.specs.Numbers.{articleNumber}
 use Rattle.labelling.specs.Labels.{Label, labelOf}
 use Rattle.patterns.specs.Twigs.{childEdge}

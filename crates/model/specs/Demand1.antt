@@ -4,10 +4,10 @@ use mathlib.Core.List.{List, []}
 use mathlib.Core.Option.{some, none}
 use Prim.Native.Nat.{ℕ, _<_}
 use lib.ListN.{length, getD, replicate, take, drop}
-use Rattle.labelling.specs.Basics.{over}
-use Rattle.labelling.specs.Limits.{tableSize, labelSize}
-use Rattle.labelling.specs.Refusals.{Refusal, refused, nameAsked}
-use Rattle.labelling.specs.Names.{readNames, emptyTable, tableCheck}
+use Rattle.basics.specs.Basics.{over}
+use Rattle.basics.specs.Limits.{tableSize, labelSize}
+use Rattle.basics.specs.Refusals.{Refusal, refused, nameAsked}
+use Rattle.naming.specs.Names.{readNames, emptyTable, tableCheck}
 use Rattle.labelling.specs.Labels.{decodeCall, kinshipCall, followsCall}
 use Rattle.storage.specs.Updates.{newStore, enter, delete}
 use Rattle.storage.specs.Cutting.{cut}

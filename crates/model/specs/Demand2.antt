@@ -6,15 +6,15 @@ use mathlib.Core.Option.{none, some}
 use Prim.Native.Nat.{ℕ, _≤_, _+_, _-_, _*_}
 use lib.ListN.{length, getD}
 use lib.Dec.{T}
-use Rattle.labelling.specs.Basics.{_∈_, Ascending, over, joined}
-use Rattle.labelling.specs.Limits.{labelSize}
-use Rattle.labelling.specs.Names.{Clues, cluesOf, tableCheck}
+use Rattle.basics.specs.Basics.{_∈_, Ascending, over, joined}
+use Rattle.basics.specs.Limits.{labelSize}
+use Rattle.naming.specs.Names.{Clues, cluesOf, tableCheck}
 use Rattle.labelling.specs.Labels.{Label, within, decode, path, nameAt}
 use Rattle.patterns.specs.Twigs.{Twig, twigCheck, readTwig, wanted, OneLeaf, nameCheck, leafNames}
 use Rattle.patterns.specs.Matches.{earlier, matches, Match, GoodStreams, IsMatch, PathSolution, labelsWords, matchWords}
 use Rattle.storage.specs.Store.{Element, elements, rootOf, sizeCheck, soundCheck}
 use Rattle.storage.specs.Cutting.{streams, stream, cut, Cuts, fullList, cutWords}
-use Rattle.labelling.specs.Outputs.{Listing}
+use Rattle.basics.specs.Outputs.{Listing}
 use Rattle.patterns.specs.Matching.{streamsCheck, dealt, matchCall}
 use Rattle.model.specs.Trees.{namesTo, Embedding}
 

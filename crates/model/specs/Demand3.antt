@@ -6,17 +6,17 @@ use mathlib.Core.Option.{none, some}
 use Prim.Native.Nat.{ℕ, _+_, _-_, _*_, _≤_, _<_}
 use lib.ListN.{length, getD, take, replicate}
 use lib.Dec.{T}
-use Rattle.labelling.specs.Basics.{_∈_, joined, last, over, Ascending}
-use Rattle.labelling.specs.Limits.{labelSize, recordSize}
-use Rattle.labelling.specs.Refusals.{Refusal}
-use Rattle.labelling.specs.Names.{cluesOf, placeIn, tableCheck}
+use Rattle.basics.specs.Basics.{_∈_, joined, last, over, Ascending}
+use Rattle.basics.specs.Limits.{labelSize, recordSize}
+use Rattle.basics.specs.Refusals.{Refusal}
+use Rattle.naming.specs.Names.{cluesOf, placeIn, tableCheck}
 use Rattle.labelling.specs.Numbers.{Least}
 use Rattle.labelling.specs.Labels.{Label, within, same, labelOf, labelWords, namesIn, decode, path, decodeCall}
 use Rattle.patterns.specs.Twigs.{Twig, readTwig, twigCheck, nameCheck, wanted, leafNames}
 use Rattle.patterns.specs.Matches.{Match, earlier, labelsWords, matchWords, less}
 use Rattle.storage.specs.Store.{sizeCheck}
 use Rattle.storage.specs.Updates.{given, newStore}
-use Rattle.labelling.specs.Outputs.{Listing}
+use Rattle.basics.specs.Outputs.{Listing}
 use Rattle.storage.specs.Cutting.{stream, cut, Cuts, fullList, cutWords}
 use Rattle.patterns.specs.Matching.{matchCall}
 use Rattle.model.specs.Book.{Line, Book, Call, entry, deletion, lineElement, lineAt, sooner, inOrder, bookElements, bookWords, bookRefusal, bookAfter, childLine, answer, Run, rootLine}

@@ -2,8 +2,8 @@
 use mathlib.Core.Path.{_≡_}
 use mathlib.Core.List.{List, [], _∷_}
 use Prim.Native.Nat.{ℕ, _≤_}
-use Rattle.labelling.specs.Basics.{_∈_}
-use Rattle.labelling.specs.Refusals.{Refusal, fileLength, nameTooHigh, pairAgain, twigLength, twigParent, twigEdge, nameAsked, twigEnd, noRecord, notInClue, tooDeep, noNumber, noSpace, rootStays, notLabel, emptyClue, shortOutput, storeSize, unsound, badStream, badRoot, badTable}
+use Rattle.basics.specs.Basics.{_∈_}
+use Rattle.basics.specs.Refusals.{Refusal, fileLength, nameTooHigh, pairAgain, twigLength, twigParent, twigEdge, nameAsked, twigEnd, noRecord, notInClue, tooDeep, noNumber, noSpace, rootStays, notLabel, emptyClue, shortOutput, storeSize, unsound, badStream, badRoot, badTable}
 
 -- reading a child-name file: 1, 2, 3
 unfoldable pub fileNumbers : List ℕ

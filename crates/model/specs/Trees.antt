@@ -4,7 +4,7 @@ use mathlib.Core.List.{List, [], map}
 use Prim.Native.Nat.{ℕ, _<_}
 use lib.ListN.{length, getD}
 use lib.Dec.{T}
-use Rattle.labelling.specs.Basics.{_∈_}
+use Rattle.basics.specs.Basics.{_∈_}
 use Rattle.labelling.specs.Labels.{Label}
 use Rattle.patterns.specs.Twigs.{Twig, nodeAt}
 use Rattle.patterns.specs.Matches.{Match, asks, hangs, prefixes}

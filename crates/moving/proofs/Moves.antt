@@ -7,8 +7,8 @@ use native.Mathlib.Decide.{decLt}
 use native.Mathlib.Omega.{arith}
 use lib.ListN.{length, getD, take, drop, set, replicate, length-append, length-drop, length-replicate, getD-replicate, take-append-drop}
 use lib.Seq.{paste, take-all, length-take-le, getD-drop}
-use Rattle.labelling.specs.Basics.{over}
-use Rattle.labelling.specs.Limits.{recordSize}
+use Rattle.basics.specs.Basics.{over}
+use Rattle.basics.specs.Limits.{recordSize}
 use Rattle.words.proofs.Words.{over-middle}
 use Rattle.moving.specs.Moves.{put, shiftedUp, shiftedDown, cleared, inserted, removed}
 use Rattle.moving.proofs.Words.{paste-more, paste-beside, two-parts, part-kept, rest-kept, then-before, then-after}

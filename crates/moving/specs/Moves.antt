@@ -2,7 +2,7 @@
 use Prim.Native.Nat.{ℕ, _+_, _-_, _*_}
 use mathlib.Core.List.{List, _++_}
 use lib.ListN.{take, drop, replicate}
-use Rattle.labelling.specs.Limits.{recordSize}
+use Rattle.basics.specs.Limits.{recordSize}
 
 -- record `at` replaced by another
 unfoldable pub put : List ℕ → ℕ → List ℕ → List ℕ

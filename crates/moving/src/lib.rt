@@ -4,7 +4,7 @@ use words::overwrite;
 ghost use mathlib.Core.Path.{_≡_};
 ghost use Prim.Native.Nat.{_+_, _*_, _<_, _≤_};
 ghost use lib.ListN.{length, take, drop};
-ghost use Rattle.labelling.specs.Limits.{recordSize};
+ghost use Rattle.basics.specs.Limits.{recordSize};
 ghost use Rattle.moving.specs.Moves.{put, shiftedUp, shiftedDown, cleared, inserted, removed};
 
 // A record copied to the place of another.

@@ -6,12 +6,12 @@ use Prim.Native.Nat.{ℕ, _+_, _*_, _/_, _%_, _≤_, _<_}
 use native.Mathlib.Omega.{arith}
 use lib.ListN.{length, getD, set, replicate}
 use lib.Dec.{leb, eqb, leb→le, le→leb}
-use Rattle.labelling.specs.Limits.{maxName, tableSize, filler, maxFile}
-use Rattle.labelling.specs.Refusals.{refuse, fileLength, nameTooHigh, pairAgain}
-use Rattle.labelling.specs.Names.{pairs, pairsCheck, fileCheck, emptyTable, readNames, cluesOf, placeIn}
-use Rattle.labelling.proofs.Tests.{and-iff, eqb-alike}
-use Rattle.labelling.proofs.Refusals.{check-passed, check-failed, first-here, first-next}
-use Rattle.labelling.proofs.NameFiles.{accepted-read, refused-read}
+use Rattle.basics.specs.Limits.{maxName, tableSize, filler, maxFile}
+use Rattle.basics.specs.Refusals.{refuse, fileLength, nameTooHigh, pairAgain}
+use Rattle.naming.specs.Names.{pairs, pairsCheck, fileCheck, emptyTable, readNames, cluesOf, placeIn}
+use Rattle.basics.proofs.Tests.{and-iff, eqb-alike}
+use Rattle.basics.proofs.Refusals.{check-passed, check-failed, first-here, first-next}
+use Rattle.naming.proofs.NameFiles.{accepted-read, refused-read}
 use Rattle.refusals.specs.declared.Refusal.{Refusal}
 use Rattle.refusals.specs.declared.Verdict.{Verdict}
 use Rattle.refusals.specs.declared.Verdict.the-variants as verdict

@@ -11,17 +11,17 @@ use native.Mathlib.Decide.{ℕ-discrete}
 use lib.ListN.{length, getD, take, drop, set, replicate, length-append, length-set}
 use lib.Seq.{split-at, take-all, take-suc, length-take-le, ext-getD, getD-set-same, getD-set-other, set-at}
 use lib.Dec.{T, eqb, eqb-refl, T-not, not-T, leb→le, le→leb}
-use Rattle.labelling.specs.Basics.{_∈_, keep, upTo, stands}
-use Rattle.labelling.specs.Limits.{maxName, tableSize, filler}
-use Rattle.labelling.specs.Refusals.{refuse, nameTooHigh, pairAgain}
-use Rattle.labelling.specs.Names.{isName, Pair, pairs, children, pairCheck, pairsCheck, rowOf, tableOf, emptyTable, cluesOf, placeIn}
-use Rattle.labelling.proofs.Tests.{and-iff, is-true, is-false, eqb-alike}
-use Rattle.labelling.proofs.Lists.{here, there, here-or-there, nowhere, member-at, keep-append}
-use Rattle.labelling.proofs.Refusals.{first-none, first-next, first-here, first-passed, last-passed, check-passed, check-failed}
-use Rattle.labelling.proofs.Once.{stands-iff, pigeonhole}
-use Rattle.labelling.proofs.NameTables.{placed-at, placeIn-none}
-use Rattle.labelling.proofs.NamePairs.{GoodPairs, pairsCheck-iff, children-iff}
-use Rattle.labelling.proofs.NameFiles.{children-good, tableOf-row, length-tableOf, clues-tableOf}
+use Rattle.basics.specs.Basics.{_∈_, keep, upTo, stands}
+use Rattle.basics.specs.Limits.{maxName, tableSize, filler}
+use Rattle.basics.specs.Refusals.{refuse, nameTooHigh, pairAgain}
+use Rattle.naming.specs.Names.{isName, Pair, pairs, children, pairCheck, pairsCheck, rowOf, tableOf, emptyTable, cluesOf, placeIn}
+use Rattle.basics.proofs.Tests.{and-iff, is-true, is-false, eqb-alike}
+use Rattle.basics.proofs.Lists.{here, there, here-or-there, nowhere, member-at, keep-append, stands-iff}
+use Rattle.basics.proofs.Refusals.{first-none, first-next, first-here, first-passed, last-passed, check-passed, check-failed}
+use Rattle.naming.proofs.Once.{pigeonhole}
+use Rattle.naming.proofs.NameTables.{placed-at, placeIn-none}
+use Rattle.naming.proofs.NamePairs.{GoodPairs, pairsCheck-iff, children-iff}
+use Rattle.naming.proofs.NameFiles.{children-good, tableOf-row, length-tableOf, clues-tableOf}
 
 -- where the first pairs pass, the check goes on with the others
 pairsCheck-on : (i : ℕ) (earlier done qs : List Pair) → pairsCheck i earlier done ≡ none →

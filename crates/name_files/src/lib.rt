@@ -9,8 +9,8 @@ use refusals::Refusal;
 use refusals::Verdict;
 use refusals::refuse;
 ghost use mathlib.Core.Path.{_≡_};
-ghost use Rattle.labelling.specs.Names.{fileCheck, emptyTable, readNames};
-ghost use Rattle.labelling.specs.Examples.{benchTable};
+ghost use Rattle.naming.specs.Names.{fileCheck, emptyTable, readNames};
+ghost use Rattle.naming.specs.Examples.{benchTable};
 ghost use Rattle.refusals.specs.Answers.{verdictOf};
 ghost use Rattle.name_files.specs.Answers.{PairsPut};
 

@@ -10,9 +10,9 @@ use lib.ListN.{length, getD, take, drop, replicate, length-take, drop-of-length-
 use lib.Seq.{getD-take}
 use lib.Dec.{eqb}
 use borrow.Author.Tests.{eq-eqb, ne-eqb}
-use Rattle.labelling.specs.Limits.{filler, tableSize}
-use Rattle.labelling.specs.Names.{namesOf, cluesOf, placeIn, led}
-use Rattle.labelling.proofs.Scans.{from-cons}
+use Rattle.basics.specs.Limits.{filler, tableSize}
+use Rattle.naming.specs.Names.{namesOf, cluesOf, placeIn, led}
+use Rattle.basics.proofs.Scans.{from-cons}
 use Rattle.names.specs.Answers.{placeOf, childOf}
 use Rattle.names.specs.declared.Place.{Place}
 use Rattle.names.specs.declared.Place.the-variants as place

@@ -1,7 +1,7 @@
 // Names, and what may stand below them: the child-name table and its lookups.
 ghost use mathlib.Core.Path.{_≡_};
 ghost use lib.ListN.{length};
-ghost use Rattle.labelling.specs.Names as model;
+ghost use Rattle.naming.specs.Names as model;
 ghost use Rattle.names.specs.Answers.{placeOf, childOf};
 
 // The highest name.

@@ -7,10 +7,10 @@ use native.Mathlib.Omega.{arith}
 use lib.ListN.{length}
 use lib.Dec.{T}
 use borrow.Author.Tests.{le-leb, lt-leb, not-true, not-false}
-use Rattle.labelling.specs.Basics.{elim?, over}
-use Rattle.labelling.specs.Limits.{maxName, recordSize}
-use Rattle.labelling.specs.Refusals.{refuse, check, first, storeSize, badRoot}
-use Rattle.labelling.specs.Names.{isName, rootCheck}
+use Rattle.basics.specs.Basics.{elim?, over}
+use Rattle.basics.specs.Limits.{maxName, recordSize}
+use Rattle.basics.specs.Refusals.{refuse, check, first, storeSize, badRoot}
+use Rattle.naming.specs.Names.{isName, rootCheck}
 use Rattle.labelling.specs.Labels.{labelWords}
 use Rattle.storage.specs.Store.{elementWords, isSlice}
 use Rattle.storage.specs.Updates.{newStoreRefusal, newStore}

@@ -5,7 +5,7 @@ use mathlib.Core.Bool.{Bool, true, false, cond}
 use native.Mathlib.Omega.{arith}
 use lib.Dec.{leb}
 use borrow.Author.Tests.{le-ltb, lt-ltb, le-leb, lt-leb}
-use Rattle.labelling.specs.Limits.{maxComponent}
+use Rattle.basics.specs.Limits.{maxComponent}
 use Rattle.labelling.specs.Numbers.{number}
 use Rattle.numbers.specs.Answers.{numberOf, numberFor}
 use Rattle.numbers.specs.declared.Number.{Number}

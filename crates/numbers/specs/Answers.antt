@@ -2,7 +2,7 @@
 use Prim.Native.Nat.{ℕ}
 use mathlib.Core.Bool.{cond}
 use lib.Dec.{leb, ltb}
-use Rattle.labelling.specs.Limits.{maxComponent}
+use Rattle.basics.specs.Limits.{maxComponent}
 use Rattle.labelling.specs.Numbers.{number}
 use Rattle.numbers.specs.declared.Number.{Number}
 use Rattle.numbers.specs.declared.Number.the-variants as given

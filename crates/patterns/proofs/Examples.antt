@@ -1,6 +1,6 @@
 -- The examples of matching hold.
 use mathlib.Core.Path.{refl}
-use Rattle.labelling.specs.Examples.{Hold}
+use Rattle.basics.specs.Examples.{Hold}
 use Rattle.patterns.specs.Examples.{matchChecks}
 use Rattle.patterns.proofs.Computing.{computing}
 

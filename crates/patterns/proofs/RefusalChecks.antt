@@ -1,6 +1,6 @@
 -- Every refusal of a twig and of matching at its corner is what the paper says.
 use mathlib.Core.Path.{refl}
-use Rattle.labelling.specs.Examples.{Hold}
+use Rattle.basics.specs.Examples.{Hold}
 use Rattle.patterns.specs.RefusalChecks.{twigRefusals, matchRefusals}
 use Rattle.patterns.proofs.Computing.{computing}
 

@@ -10,17 +10,17 @@ use native.Mathlib.Omega.{arith}
 use lib.ListN.{length, getD, take, drop}
 use lib.Seq.{drop-drop}
 use lib.Dec.{T, leb, leb→le, le→leb}
-use Rattle.labelling.specs.Basics.{elim?, all, total}
-use Rattle.labelling.specs.Limits.{labelSize, maxElements, anyName}
-use Rattle.labelling.specs.Refusals.{Refusal, refuse, check, first, badStream}
-use Rattle.labelling.specs.Names.{Clues}
+use Rattle.basics.specs.Basics.{elim?, all, total}
+use Rattle.basics.specs.Limits.{labelSize, maxElements, anyName}
+use Rattle.basics.specs.Refusals.{Refusal, refuse, check, first, badStream}
+use Rattle.naming.specs.Names.{Clues}
 use Rattle.labelling.specs.Labels.{Label, before, labelOf, nameAt}
 use Rattle.patterns.specs.Twigs.{Twig, wanted, leafNames}
 use Rattle.patterns.specs.Matching.{inStream, streamCheck, labelsCheck, streamsCheck}
-use Rattle.labelling.proofs.Tests.{eqb-alike, decide}
-use Rattle.labelling.proofs.Lists.{all-at}
+use Rattle.basics.proofs.Tests.{eqb-alike, decide}
+use Rattle.basics.proofs.Lists.{all-at}
 use Rattle.labelling.proofs.LabelWords.{IsLabel, isLabel-iff}
-use Rattle.labelling.proofs.Refusals.{check-failed, check-passed, first-next, first-here}
+use Rattle.basics.proofs.Refusals.{check-failed, check-passed, first-next, first-here}
 use Rattle.patterns.proofs.Asking.{fits-iff}
 use Rattle.patterns.proofs.StreamChecks.{Later, inStream-iff}
 

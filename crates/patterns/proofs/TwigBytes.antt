@@ -10,12 +10,12 @@ use native.Mathlib.Numerals.{unary-clauses}
 use native.Mathlib.Omega.{arith}
 use lib.ListN.{length, getD}
 use lib.Dec.{T, leb, ltb, eqb, leb→le, le→leb, ltb→lt, lt→ltb, eqb·suc-zero}
-use Rattle.labelling.specs.Limits.{nodeSize, maxTwig, maxName, anyName, noParent}
-use Rattle.labelling.specs.Refusals.{Refusal, twigLength, twigParent, twigEdge, nameAsked, twigEnd}
-use Rattle.labelling.specs.Names.{isName}
+use Rattle.basics.specs.Limits.{nodeSize, maxTwig, maxName, anyName, noParent}
+use Rattle.basics.specs.Refusals.{Refusal, twigLength, twigParent, twigEdge, nameAsked, twigEnd}
+use Rattle.naming.specs.Names.{isName}
 use Rattle.patterns.specs.Twigs.{GoodTwig, childEdge, descendantEdge, nodeAt, readTwig, parentFits, nameCheck, nodeCheck, nodesCheck, twigCheck}
-use Rattle.labelling.proofs.Tests.{eqb-alike, and-facts, or-facts}
-use Rattle.labelling.proofs.Refusals.{check-iff, first-iff, last-iff, first-place, last-place}
+use Rattle.basics.proofs.Tests.{eqb-alike, and-facts, or-facts}
+use Rattle.basics.proofs.Refusals.{check-iff, first-iff, last-iff, first-place, last-place}
 
 -- a parent fits exactly if record 0 has none and another has an earlier one
 pub parentFits-iff : (i p : ℕ) → T (parentFits i p) ↔ ((i ≡ 0 → p ≡ noParent) × (0 < i → p < i))

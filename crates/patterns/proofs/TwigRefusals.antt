@@ -10,12 +10,12 @@ use native.Mathlib.Numerals.{unary-clauses}
 use native.Mathlib.Omega.{arith}
 use lib.ListN.{length, getD}
 use lib.Dec.{T, leb, eqb, leb→le, le→leb}
-use Rattle.labelling.specs.Limits.{nodeSize, maxTwig, maxName, anyName, noParent}
-use Rattle.labelling.specs.Refusals.{Refusal, refuse, check, first, twigLength, twigParent, twigEdge, nameAsked, twigEnd}
-use Rattle.labelling.specs.Names.{isName}
+use Rattle.basics.specs.Limits.{nodeSize, maxTwig, maxName, anyName, noParent}
+use Rattle.basics.specs.Refusals.{Refusal, refuse, check, first, twigLength, twigParent, twigEdge, nameAsked, twigEnd}
+use Rattle.naming.specs.Names.{isName}
 use Rattle.patterns.specs.Twigs.{childEdge, descendantEdge, parentFits, nameCheck, nodeCheck, nodesCheck, twigCheck}
-use Rattle.labelling.proofs.Tests.{eqb-alike, or-facts}
-use Rattle.labelling.proofs.Refusals.{check-iff, refuse-number, first-some, first-here, first-next, first-rest, first-last}
+use Rattle.basics.proofs.Tests.{eqb-alike, or-facts}
+use Rattle.basics.proofs.Refusals.{check-iff, refuse-number, first-some, first-here, first-next, first-rest, first-last}
 use Rattle.patterns.proofs.TwigBytes.{NodeFacts, parentFits-iff, length-iff, nodeCheck-iff, nodeCheck-place, FactsAt, facts-later}
 
 -- a check refuses by a number at a place exactly if both are its own and its fact does not hold

@@ -2,10 +2,11 @@
 use mathlib.Core.List.{List, [], _∷_, _++_, map}
 use Prim.Native.Nat.{ℕ}
 use lib.ListN.{replicate}
-use Rattle.labelling.specs.Basics.{joined}
-use Rattle.labelling.specs.Outputs.{Listing}
+use Rattle.basics.specs.Basics.{joined}
+use Rattle.basics.specs.Outputs.{Listing}
 use Rattle.labelling.specs.Labels.{Label, same, labelWords}
-use Rattle.labelling.specs.Examples.{Check, is, shown, shortTable}
+use Rattle.basics.specs.Examples.{Check, is, shown}
+use Rattle.naming.specs.Examples.{shortTable}
 use Rattle.patterns.specs.Twigs.{readTwig, wanted, leafNames}
 use Rattle.patterns.specs.Matches.{Match, matchWords, less}
 use Rattle.patterns.specs.Matching.{matchCall}

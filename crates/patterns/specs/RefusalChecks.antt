@@ -4,9 +4,10 @@ use mathlib.Core.List.{List, [], _∷_, _++_, map}
 use Prim.Native.Nat.{ℕ, _-_}
 use lib.ListN.{replicate}
 use lib.Dec.{eqb}
-use Rattle.labelling.specs.Basics.{joined, upTo}
-use Rattle.labelling.specs.Limits.{noParent, anyName}
-use Rattle.labelling.specs.Examples.{Check, is, shown, tornTable, lineTable}
+use Rattle.basics.specs.Basics.{joined, upTo}
+use Rattle.basics.specs.Limits.{noParent, anyName}
+use Rattle.basics.specs.Examples.{Check, is, shown}
+use Rattle.naming.specs.Examples.{tornTable, lineTable}
 use Rattle.patterns.specs.Twigs.{descendantEdge, twigCheck}
 use Rattle.patterns.specs.Matches.{labelsWords}
 use Rattle.patterns.specs.Matching.{matchCall}

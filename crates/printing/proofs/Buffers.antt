@@ -5,12 +5,12 @@ use mathlib.Core.Path.{_≡_, refl, sym, ap, _∙_}
 use mathlib.Core.List.{List, [], _∷_, _++_, append-nil, map-append}
 use native.Mathlib.Omega.{arith}
 use lib.ListN.{length, take, drop, set, length-append, length-map, length-set}
-use Rattle.labelling.specs.Basics.{over, joined}
-use Rattle.labelling.specs.Limits.{labelSize}
+use Rattle.basics.specs.Basics.{over, joined}
+use Rattle.basics.specs.Limits.{labelSize}
 use Rattle.labelling.specs.Labels.{Label}
 use Rattle.patterns.specs.Twigs.{Twig, leafNames}
 use Rattle.patterns.specs.Matches.{labelsWords}
-use Rattle.labelling.proofs.Outputs.{length-over}
+use Rattle.basics.proofs.Outputs.{length-over}
 use Rattle.storage.proofs.StreamWords.{counted, laid}
 use Rattle.words.proofs.Words.{over-middle}
 use Rattle.words.specs.Writing.{written}

@@ -5,20 +5,20 @@ use mathlib.Core.Path.{_≡_, ap, _∙_}
 use mathlib.Core.List.{List}
 use mathlib.Core.Option.{none}
 use lib.ListN.{length}
-use Rattle.labelling.specs.Basics.{_∈_, over}
-use Rattle.labelling.specs.Limits.{maxDepth}
-use Rattle.labelling.specs.Refusals.{refuse, shortOutput}
-use Rattle.labelling.specs.Names.{cluesOf}
+use Rattle.basics.specs.Basics.{_∈_, over}
+use Rattle.basics.specs.Limits.{maxDepth}
+use Rattle.basics.specs.Refusals.{refuse, shortOutput}
+use Rattle.naming.specs.Names.{cluesOf}
 use Rattle.labelling.specs.Labels.{Label}
 use Rattle.patterns.specs.Twigs.{nameCheck}
 use Rattle.patterns.specs.Matches.{labelsWords}
 use Rattle.storage.specs.Store.{elements, rootOf}
-use Rattle.labelling.specs.Outputs as outputs
+use Rattle.basics.specs.Outputs as outputs
 use Rattle.storage.specs.Cutting as model
-use Rattle.labelling.proofs.Refusals.{first-rest, first-last}
+use Rattle.basics.proofs.Refusals.{first-rest, first-last}
 use Rattle.storage.proofs.SoundStore.{SoundElements, store-elements}
 use Rattle.storage.proofs.StreamWords.{for-stream}
-use Rattle.labelling.proofs.Outputs.{listed-refusal, listed-whole, room-iff}
+use Rattle.basics.proofs.Outputs.{listed-refusal, listed-whole, room-iff}
 use Rattle.refusals.specs.Answers.{verdictOf, filled, listingOf}
 use Rattle.refusals.specs.declared.Listing.{Listing}
 use Rattle.refusals.specs.declared.Refusal as declared

@@ -9,11 +9,11 @@ use native.Mathlib.Omega.{arith}
 use mir.Syntax.{w8, w16}
 use mir.Val.{Fits}
 use lib.ListN.{length, getD, take, drop, set}
-use Rattle.labelling.specs.Basics.{over}
-use Rattle.labelling.specs.Limits.{maxBytes, recordSize}
-use Rattle.labelling.specs.Refusals.{refuse, storeSize}
+use Rattle.basics.specs.Basics.{over}
+use Rattle.basics.specs.Limits.{maxBytes, recordSize}
+use Rattle.basics.specs.Refusals.{refuse, storeSize}
 use Rattle.printouts.specs.Printing.{storeFileCheck, fileWords}
-use Rattle.labelling.proofs.Refusals.{check-passed, check-failed}
+use Rattle.basics.proofs.Refusals.{check-passed, check-failed}
 use Rattle.printouts.proofs.FileStores.{storeFile-iff, length-fileWords}
 use Rattle.refusals.specs.Answers.{verdictOf}
 use Rattle.refusals.specs.declared.Verdict.{Verdict}

@@ -9,8 +9,8 @@ use native.Mathlib.Numerals.{add-one}
 use native.Mathlib.Omega.{arith}
 use lib.ListN.{length, getD, take, drop, length-append, take-append-drop}
 use lib.Seq.{take-suc}
-use Rattle.labelling.specs.Basics.{_∈_, elim?, joined}
-use Rattle.labelling.specs.Limits.{maxDepth, labelSize}
+use Rattle.basics.specs.Basics.{_∈_, elim?, joined}
+use Rattle.basics.specs.Limits.{maxDepth, labelSize}
 use Rattle.labelling.specs.Labels.{Label, labelWords}
 use Rattle.patterns.specs.Twigs.{Twig, nodeAt, isLeaf, wanted, leafNames}
 use Rattle.patterns.specs.Matches.{labelsWords}

@@ -6,19 +6,19 @@ use mathlib.Core.List.{List, [], _++_}
 use mathlib.Core.Option.{none}
 use native.Mathlib.Omega.{arith}
 use lib.ListN.{length, drop, length-append}
-use Rattle.labelling.specs.Basics.{over}
-use Rattle.labelling.specs.Limits.{labelSize}
-use Rattle.labelling.specs.Names.{cluesOf}
+use Rattle.basics.specs.Basics.{over}
+use Rattle.basics.specs.Limits.{labelSize}
+use Rattle.naming.specs.Names.{cluesOf}
 use Rattle.patterns.specs.Twigs.{readTwig, wanted}
 use Rattle.patterns.specs.Matches.{Match, matchWords}
-use Rattle.labelling.specs.Outputs.{roomCheck}
+use Rattle.basics.specs.Outputs.{roomCheck}
 use Rattle.patterns.specs.Matching as model
 use Rattle.printouts.specs.Printing.{matchesText, refusalText, bufferCheck}
-use Rattle.labelling.proofs.Refusals.{first-rest, first-last}
+use Rattle.basics.proofs.Refusals.{first-rest, first-last}
 use Rattle.patterns.proofs.TwigBytes.{accepted-twig}
 use Rattle.patterns.proofs.Matches.{matches-iff}
 use Rattle.patterns.proofs.StreamChecks.{streams-labels}
-use Rattle.labelling.proofs.Outputs.{listed-refusal, listed-whole}
+use Rattle.basics.proofs.Outputs.{listed-refusal, listed-whole}
 use Rattle.printouts.proofs.FileStores.{buffer-iff}
 use Rattle.patterns.proofs.MatchSizes.{match-short}
 use Rattle.refusals.specs.Answers.{verdictOf, filled, listingOf}

@@ -6,11 +6,11 @@ use mathlib.Core.List.{List, [], _∷_}
 use mathlib.Core.Option.{Option, none, some}
 use native.Mathlib.Omega.{arith}
 use lib.ListN.{length}
-use Rattle.labelling.specs.Basics.{elim?, over}
-use Rattle.labelling.specs.Refusals.{Refusal, first}
+use Rattle.basics.specs.Basics.{elim?, over}
+use Rattle.basics.specs.Refusals.{Refusal, first}
 use Rattle.patterns.specs.Matches.{Match}
 use Rattle.printouts.specs.Printing.{matchesText, refusalText}
-use Rattle.labelling.proofs.Refusals.{first-rest, first-here}
+use Rattle.basics.proofs.Refusals.{first-rest, first-here}
 use Rattle.refusals.specs.Answers.{verdictOf, refusalOf}
 use Rattle.refusals.specs.declared.Refusal as declared
 use Rattle.refusals.specs.declared.Verdict.{Verdict}

@@ -6,12 +6,12 @@ use mathlib.Core.List.{List, _∷_}
 use mathlib.Core.Option.{none}
 use native.Mathlib.Omega.{arith}
 use lib.ListN.{length, take, replicate, length-replicate}
-use Rattle.labelling.specs.Basics.{over}
-use Rattle.labelling.specs.Limits.{recordSize}
-use Rattle.labelling.specs.Names.{tableCheck, fileCheck, readNames}
+use Rattle.basics.specs.Basics.{over}
+use Rattle.basics.specs.Limits.{recordSize}
+use Rattle.naming.specs.Names.{tableCheck, fileCheck, readNames}
 use Rattle.storage.specs.Store.{sizeCheck}
 use Rattle.printouts.specs.Printing.{refusalText, fileWords, storeFileCheck, fileCount, fileElements, fileMatches, printRefusal, printed}
-use Rattle.labelling.proofs.NameFiles.{file-table}
+use Rattle.naming.proofs.NameFiles.{file-table}
 use Rattle.printouts.proofs.FileStores.{storeFile-iff, storeFile-sized, length-fileWords}
 use Rattle.refusals.specs.Answers.{verdictOf}
 use Rattle.refusals.specs.declared.Refusal as declared

@@ -10,12 +10,12 @@ use native.Mathlib.Omega.{arith}
 use lib.ListN.{length, take, drop, length-append}
 use lib.Dec.{leb→le}
 use borrow.Author.Tests.{le-leb, lt-leb}
-use Rattle.labelling.specs.Basics.{over}
-use Rattle.labelling.specs.Refusals.{refuse, check, shortOutput}
-use Rattle.labelling.specs.Outputs.{roomCheck}
+use Rattle.basics.specs.Basics.{over}
+use Rattle.basics.specs.Refusals.{refuse, check, shortOutput}
+use Rattle.basics.specs.Outputs.{roomCheck}
 use Rattle.printouts.specs.Printing.{bufferCheck}
-use Rattle.labelling.proofs.Refusals.{check-failed}
-use Rattle.labelling.proofs.Outputs.{take-over, room-iff}
+use Rattle.basics.proofs.Refusals.{check-failed}
+use Rattle.basics.proofs.Outputs.{take-over, room-iff}
 use Rattle.refusals.specs.Answers.{verdictOf}
 use Rattle.refusals.specs.declared.Refusal as declared
 use Rattle.refusals.specs.declared.Verdict.{Verdict}

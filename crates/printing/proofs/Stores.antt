@@ -5,11 +5,11 @@ use mathlib.Core.Path.{_≡_, ap, _∙_}
 use mathlib.Core.List.{List, _∷_}
 use mathlib.Core.Option.{none}
 use lib.ListN.{length}
-use Rattle.labelling.specs.Names.{cluesOf, tableCheck}
+use Rattle.naming.specs.Names.{cluesOf, tableCheck}
 use Rattle.patterns.specs.Twigs.{twigCheck}
 use Rattle.storage.specs.Store.{sizeCheck, soundCheck}
 use Rattle.printouts.specs.Printing.{refusalText}
-use Rattle.labelling.proofs.Refusals.{first-rest, first-last}
+use Rattle.basics.proofs.Refusals.{first-rest, first-last}
 use Rattle.refusals.specs.Answers.{verdictOf}
 use Rattle.refusals.specs.declared.Refusal as declared
 use Rattle.refusals.specs.declared.Verdict.{Verdict}

@@ -8,15 +8,15 @@ use mathlib.Core.Option.{none, Option·some-ne-none}
 use native.Mathlib.Omega.{arith}
 use lib.ListN.{length, take, drop, set, length-append, length-drop}
 use lib.Seq.{take-all}
-use Rattle.labelling.specs.Basics.{over, joined}
-use Rattle.labelling.specs.Limits.{maxElements, labelSize}
-use Rattle.labelling.specs.Refusals.{refuse, shortOutput}
+use Rattle.basics.specs.Basics.{over, joined}
+use Rattle.basics.specs.Limits.{maxElements, labelSize}
+use Rattle.basics.specs.Refusals.{refuse, shortOutput}
 use Rattle.patterns.specs.Twigs.{nodeAt, readTwig, isLeaf, wanted, leafNames, nameCheck, twigCheck}
 use Rattle.patterns.specs.Matches.{labelsWords}
 use Rattle.storage.specs.Store.{elements}
-use Rattle.labelling.specs.Outputs as outputs
+use Rattle.basics.specs.Outputs as outputs
 use Rattle.storage.specs.Cutting as model
-use Rattle.labelling.proofs.Scans.{tail-is}
+use Rattle.basics.proofs.Scans.{tail-is}
 use Rattle.patterns.proofs.TwigBytes.{twigCheck-iff, nameCheck-iff, readTwig-at, length-readTwig}
 use Rattle.storage.proofs.Sizes.{size-iff, length-elements-read}
 use Rattle.storage.proofs.StreamWords.{laid, length-stream}
@@ -33,7 +33,7 @@ use Rattle.twigs.proofs.Nodes.{twig-few}
 use Rattle.twigs.specs.Answers.{nodeOf}
 use Rattle.printing.specs.Streams.{Accepted, Cut, allLabels}
 use Rattle.printing.proofs.Leaves.{leavesTo, leaves-leaf, leaves-inner, leaves-split, laid-append, labelsWords-laid, laid-size}
-use Rattle.labelling.proofs.Outputs.{room-iff}
+use Rattle.basics.proofs.Outputs.{room-iff}
 use Rattle.printing.proofs.Rooms.{room-failed}
 use Rattle.printing.proofs.Cuts.{streamIn, stream-short, cut-over, cut-fitted, cut-done}
 use Rattle.printing.proofs.Buffers.{Poured, poured-none, poured-next}

@@ -11,17 +11,17 @@ use lib.ListN.{length, getD, take, length-map}
 use lib.Seq.{getD-take}
 use lib.Dec.{le→leb}
 use borrow.Author.Needs.{fits-under}
-use Rattle.labelling.specs.Limits.{maxName, labelSize, nameWord, recordSize}
-use Rattle.labelling.specs.Refusals.{badRoot}
-use Rattle.labelling.specs.Names.{cluesOf, isName, rootCheck}
+use Rattle.basics.specs.Limits.{maxName, labelSize, nameWord, recordSize}
+use Rattle.basics.specs.Refusals.{badRoot}
+use Rattle.naming.specs.Names.{cluesOf, isName, rootCheck}
 use Rattle.patterns.specs.Twigs.{readTwig, wanted, leafNames, twigCheck}
 use Rattle.patterns.specs.Matches.{labelsWords}
 use Rattle.storage.specs.Store.{readElement, elements, rootOf}
-use Rattle.labelling.specs.Outputs.{roomCheck}
+use Rattle.basics.specs.Outputs.{roomCheck}
 use Rattle.storage.specs.Cutting.{fullList}
 use Rattle.patterns.specs.Matching.{matchesOf}
 use Rattle.printouts.specs.Printing.{refusalText, bufferCheck}
-use Rattle.labelling.proofs.Refusals.{check-passed}
+use Rattle.basics.proofs.Refusals.{check-passed}
 use Rattle.storage.proofs.Sizes.{size-iff, length-elements-read}
 use Rattle.storage.proofs.StreamWords.{dealt-wanted, streams-laid, counted, laid}
 use Rattle.refusals.specs.Answers.{verdictOf}
@@ -31,7 +31,7 @@ use Rattle.refusals.specs.declared.Verdict.the-variants as verdict
 use Rattle.refusals.proofs.Verdicts.{passed-none}
 use Rattle.printing.specs.Texts.{Prints, told, printedBy, listPrinted, storeMatches, bufferChecks}
 use Rattle.printing.specs.Streams.{Accepted, Cut, Streamed, allLabels, streamLens}
-use Rattle.labelling.proofs.Outputs.{room-iff}
+use Rattle.basics.proofs.Outputs.{room-iff}
 use Rattle.printing.proofs.Rooms.{room-buffer, taken, held}
 use Rattle.printing.proofs.Cuts.{streamIn, elements-sound}
 use Rattle.printing.proofs.Streams.{all-laid, all-size}

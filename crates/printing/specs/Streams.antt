@@ -4,8 +4,8 @@ use mathlib.Core.List.{List, map}
 use mathlib.Core.Option.{none}
 use Prim.Native.Nat.{ℕ}
 use lib.ListN.{length}
-use Rattle.labelling.specs.Basics.{joined, over}
-use Rattle.labelling.specs.Names.{cluesOf, tableCheck, rootCheck}
+use Rattle.basics.specs.Basics.{joined, over}
+use Rattle.naming.specs.Names.{cluesOf, tableCheck, rootCheck}
 use Rattle.labelling.specs.Labels.{Label}
 use Rattle.patterns.specs.Twigs.{readTwig, wanted, leafNames, twigCheck}
 use Rattle.patterns.specs.Matches.{labelsWords}

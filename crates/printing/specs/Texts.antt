@@ -4,9 +4,9 @@ use mathlib.Core.List.{List, [], _∷_}
 use mathlib.Core.Option.{Option}
 use Prim.Native.Nat.{ℕ}
 use lib.ListN.{length}
-use Rattle.labelling.specs.Basics.{elim?, over, joined}
-use Rattle.labelling.specs.Refusals.{Refusal, first}
-use Rattle.labelling.specs.Names.{cluesOf}
+use Rattle.basics.specs.Basics.{elim?, over, joined}
+use Rattle.basics.specs.Refusals.{Refusal, first}
+use Rattle.naming.specs.Names.{cluesOf}
 use Rattle.patterns.specs.Twigs.{readTwig, twigCheck}
 use Rattle.patterns.specs.Matches.{Match, labelsWords, matchWords}
 use Rattle.storage.specs.Store.{elements, soundCheck, rootOf}

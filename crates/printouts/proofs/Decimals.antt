@@ -7,11 +7,11 @@ use Prim.Native.Nat.{ℕ, zero, suc, _+_, _-_, _*_, _/_, _%_, _≤_, _<_}
 use native.Mathlib.Omega.{arith}
 use lib.ListN.{length, getD, length-append, List·getD-append}
 use lib.Dec.{eqb, eqb→eq}
-use Rattle.labelling.specs.Basics.{_∈_}
+use Rattle.basics.specs.Basics.{_∈_}
 use Rattle.labelling.specs.Labels.{Label}
 use Rattle.printouts.specs.Printing.{text, digits, decimal, joinedBy, labelText}
-use Rattle.labelling.proofs.Tests.{passes, fails, le?, is-false}
-use Rattle.labelling.proofs.Lists.{here, there, only-one, either-part}
+use Rattle.basics.proofs.Tests.{passes, fails, le?, is-false}
+use Rattle.basics.proofs.Lists.{here, there, only-one, either-part}
 
 -- the number that decimal digits stand for, most significant first, behind a number read before them
 unfoldable pub valueOf : ℕ → List ℕ → ℕ

@@ -1,6 +1,6 @@
 -- The printed example is worked through by the definitions.
 use mathlib.Core.Path.{_≡_, refl}
-use Rattle.labelling.specs.Examples.{benchFile}
+use Rattle.naming.specs.Examples.{benchFile}
 use Rattle.patterns.specs.Examples.{garageTwig}
 use Rattle.printouts.specs.Printing.{printed}
 use Rattle.printouts.specs.Examples.{garageStore, garageText}

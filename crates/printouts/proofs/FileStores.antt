@@ -9,14 +9,14 @@ use native.Mathlib.Nat.{mul-mod-right}
 use native.Mathlib.Omega.{arith}
 use lib.ListN.{length}
 use lib.Dec.{leb→le, le→leb, ltb, leb, eqb, ltb→lt, lt→ltb}
-use Rattle.labelling.specs.Limits.{maxBytes, recordSize}
-use Rattle.labelling.specs.Refusals.{shortOutput, storeSize}
+use Rattle.basics.specs.Limits.{maxBytes, recordSize}
+use Rattle.basics.specs.Refusals.{shortOutput, storeSize}
 use Rattle.storage.specs.Store.{sizeCheck}
 use Rattle.printouts.specs.Printing.{bufferCheck, fileCount, fileWords, storeFileCheck}
 use Rattle.printouts.specs.Printable.{StoreLength}
 use Rattle.printouts.specs.Examples.{wordBytes}
-use Rattle.labelling.proofs.Tests.{and-facts, eqb-alike}
-use Rattle.labelling.proofs.Refusals.{check-iff}
+use Rattle.basics.proofs.Tests.{and-facts, eqb-alike}
+use Rattle.basics.proofs.Refusals.{check-iff}
 use Rattle.storage.proofs.Sizes.{size-iff}
 
 -- a store's file is accepted by its length exactly if that is not 0, at most 64,000 and a multiple of 40

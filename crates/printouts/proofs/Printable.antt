@@ -9,9 +9,9 @@ use native.Mathlib.Decide.{decLt}
 use native.Mathlib.Nat.{mul-assoc}
 use native.Mathlib.Omega.{arith}
 use lib.ListN.{length, getD, length-append}
-use Rattle.labelling.specs.Basics.{_∈_, elim?, joined, total}
-use Rattle.labelling.specs.Limits.{labelSize, maxDepth, maxBytes}
-use Rattle.labelling.specs.Refusals.{Refusal, refuse, check, first, shortOutput, storeSize}
+use Rattle.basics.specs.Basics.{_∈_, elim?, joined, total}
+use Rattle.basics.specs.Limits.{labelSize, maxDepth, maxBytes}
+use Rattle.basics.specs.Refusals.{Refusal, refuse, check, first, shortOutput, storeSize}
 use Rattle.labelling.specs.Labels.{Label}
 use Rattle.patterns.specs.Twigs.{Twig, readTwig, twigCheck, wanted, leafNames}
 use Rattle.patterns.specs.Matches.{matches, labelsWords, matchWords}
@@ -19,9 +19,9 @@ use Rattle.storage.specs.Store.{rootOf}
 use Rattle.storage.specs.Cutting.{stream, streams, fullList}
 use Rattle.printouts.specs.Printing.{storeFileCheck, bufferCheck, fileElements, fileMatches, fileWords, printRefusal, printed}
 use Rattle.printouts.specs.Printable.{StoreLength, fileClues, fileSound, streamBytes, matchBytes, Printable, Unprintable, badNames, badLength, badRecord, badTwig, longStreams, longMatches, PrintHolds}
-use Rattle.labelling.proofs.Lists.{nowhere, either-part}
+use Rattle.basics.proofs.Lists.{nowhere, either-part}
 use Rattle.labelling.proofs.LabelWords.{GoodLabel}
-use Rattle.labelling.proofs.Refusals.{first-none, first-some, first-rest, first-here, first-last, first-passed, last-passed, taken}
+use Rattle.basics.proofs.Refusals.{first-none, first-some, first-rest, first-here, first-last, first-passed, last-passed, taken}
 use Rattle.patterns.proofs.TwigBytes.{accepted-twig}
 use Rattle.patterns.proofs.MatchWords.{length-labelsWords}
 use Rattle.patterns.proofs.MatchSizes.{match-words}

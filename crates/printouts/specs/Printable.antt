@@ -5,10 +5,10 @@ use mathlib.Core.List.{List, map}
 use mathlib.Core.Option.{Option, none, some}
 use Prim.Native.Nat.{ℕ, _*_, _%_, _<_, _≤_}
 use lib.ListN.{length}
-use Rattle.labelling.specs.Basics.{total}
-use Rattle.labelling.specs.Limits.{labelSize, recordSize, maxBytes}
-use Rattle.labelling.specs.Refusals.{Refusal, refuse, shortOutput, storeSize}
-use Rattle.labelling.specs.Names.{Clues, cluesOf, fileCheck, readNames}
+use Rattle.basics.specs.Basics.{total}
+use Rattle.basics.specs.Limits.{labelSize, recordSize, maxBytes}
+use Rattle.basics.specs.Refusals.{Refusal, refuse, shortOutput, storeSize}
+use Rattle.naming.specs.Names.{Clues, cluesOf, fileCheck, readNames}
 use Rattle.patterns.specs.Twigs.{readTwig, twigCheck, wanted, leafNames}
 use Rattle.storage.specs.Store.{soundCheck}
 use Rattle.storage.specs.Cutting.{stream}

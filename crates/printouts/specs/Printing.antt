@@ -7,10 +7,10 @@ use Prim.Native.Char.{code}
 use Prim.Native.String.{String, [] as nil, _∷_ as _then_}
 use lib.ListN.{length}
 use lib.Dec.{ltb, leb, eqb}
-use Rattle.labelling.specs.Basics.{elim?, joined}
-use Rattle.labelling.specs.Limits.{recordSize, maxBytes}
-use Rattle.labelling.specs.Refusals.{Refusal, check, first, shortOutput, storeSize}
-use Rattle.labelling.specs.Names.{Clues, cluesOf, fileCheck, readNames}
+use Rattle.basics.specs.Basics.{elim?, joined}
+use Rattle.basics.specs.Limits.{recordSize, maxBytes}
+use Rattle.basics.specs.Refusals.{Refusal, check, first, shortOutput, storeSize}
+use Rattle.naming.specs.Names.{Clues, cluesOf, fileCheck, readNames}
 use Rattle.labelling.specs.Labels.{Label}
 use Rattle.patterns.specs.Twigs.{readTwig, twigCheck}
 use Rattle.patterns.specs.Matches.{Match, labelsWords, matchWords}

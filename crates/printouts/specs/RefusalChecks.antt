@@ -2,7 +2,8 @@
 use mathlib.Core.List.{List, [], _∷_}
 use lib.ListN.{replicate}
 use Rattle.printouts.specs.Printing.{printed, text}
-use Rattle.labelling.specs.Examples.{Check, is, benchFile}
+use Rattle.basics.specs.Examples.{Check, is}
+use Rattle.naming.specs.Examples.{benchFile}
 use Rattle.printouts.specs.Examples.{garageStore}
 
 -- the program: 1 to 3, 18, 19, 4 to 8, 17

@@ -4,8 +4,8 @@ use mathlib.Core.Path.{_≡_, sym, subst}
 use mathlib.Core.Bool.{true, false}
 use lib.Dec.{T, eqb, leb, ltb, leb→le}
 use borrow.Author.Tests.{eq-eqb, ne-eqb, le-leb, lt-leb}
-use Rattle.labelling.specs.Limits.{maxDepth}
-use Rattle.labelling.proofs.Tests.{and-iff}
+use Rattle.basics.specs.Limits.{maxDepth}
+use Rattle.basics.proofs.Tests.{and-iff}
 use Rattle.record_rules.specs.Rules.{depthFits}
 
 -- a depth by its record's number

@@ -5,8 +5,8 @@ use mathlib.Core.List.{List}
 use native.Mathlib.Omega.{arith}
 use lib.ListN.{length, getD}
 use borrow.Author.Tests.{eqb-true}
-use Rattle.labelling.specs.Limits.{recordSize, maxDepth}
-use Rattle.labelling.specs.Names.{Clues}
+use Rattle.basics.specs.Limits.{recordSize, maxDepth}
+use Rattle.naming.specs.Names.{Clues}
 use Rattle.storage.specs.Store.{readElement}
 use Rattle.records.specs.Records.{recordAt}
 use Rattle.record_rules.specs.Rules.{Ready, brokenRoot, brokenBelow, brokenAt}

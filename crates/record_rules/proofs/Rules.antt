@@ -7,9 +7,9 @@ use native.Mathlib.Omega.{arith}
 use lib.ListN.{length, getD}
 use lib.Dec.{eqb, ltb}
 use borrow.Author.Tests.{eq-eqb, ne-eqb, lt-ltb, le-ltb, le-leb, lt-leb, not-true, not-false}
-use Rattle.labelling.specs.Basics.{elim?, last}
-use Rattle.labelling.specs.Limits.{maxDepth, maxName, recordSize, nameWord, nextWord}
-use Rattle.labelling.specs.Names.{Clues, led, isName}
+use Rattle.basics.specs.Basics.{elim?, last}
+use Rattle.basics.specs.Limits.{maxDepth, maxName, recordSize, nameWord, nextWord}
+use Rattle.naming.specs.Names.{Clues, led, isName}
 use Rattle.labelling.specs.Labels.{Label, before, shared, labelOf}
 use Rattle.storage.specs.Store as model
 use Rattle.labelling.proofs.Kinship.{shared-low}

@@ -6,9 +6,9 @@ use mathlib.Core.Path.{_≡_}
 use Prim.Native.Nat.{ℕ, zero, suc, _+_, _*_, _<_, _≤_}
 use lib.ListN.{length, getD}
 use lib.Dec.{ltb, leb, eqb}
-use Rattle.labelling.specs.Basics.{last}
-use Rattle.labelling.specs.Limits.{maxDepth, recordSize}
-use Rattle.labelling.specs.Names.{Clues, isName}
+use Rattle.basics.specs.Basics.{last}
+use Rattle.basics.specs.Limits.{maxDepth, recordSize}
+use Rattle.naming.specs.Names.{Clues, isName}
 use Rattle.labelling.specs.Labels.{labelOf, before, shared}
 use Rattle.storage.specs.Store.{Element, Rule, readElement, test, laidOut, leads, closed, orderRule, parentRule, nameRule, lastRule, nextRule}
 use Rattle.records.specs.Records.{recordAt}

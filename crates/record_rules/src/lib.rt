@@ -11,7 +11,7 @@ use records::label_at;
 ghost use mathlib.Core.Path.{_≡_};
 ghost use Prim.Native.Nat.{_+_, _*_, _≤_};
 ghost use lib.ListN.{length, getD};
-ghost use Rattle.labelling.specs.Names.{cluesOf};
+ghost use Rattle.naming.specs.Names.{cluesOf};
 ghost use Rattle.labelling.specs.Labels.{labelOf, shared};
 ghost use Rattle.storage.specs.Store as model;
 ghost use Rattle.clue_lengths.specs.Lens.{lensOf};

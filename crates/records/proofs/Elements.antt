@@ -5,7 +5,7 @@ use mathlib.Core.List.{List}
 use native.Mathlib.Omega.{arith}
 use lib.ListN.{getD, take, drop}
 use lib.Seq.{drop-drop}
-use Rattle.labelling.specs.Limits.{recordSize}
+use Rattle.basics.specs.Limits.{recordSize}
 use Rattle.storage.specs.Store.{Element, readElement, records, elements}
 use Rattle.records.specs.Records.{recordAt}
 

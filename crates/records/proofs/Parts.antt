@@ -6,7 +6,7 @@ use native.Mathlib.Omega.{arith}
 use native.Mathlib.Nat.{add-zero}
 use lib.ListN.{length, getD, take, drop, length-drop}
 use lib.Seq.{take-take, drop-drop, getD-take, getD-drop, length-take-le}
-use Rattle.labelling.specs.Limits.{recordSize, maxDepth, labelSize}
+use Rattle.basics.specs.Limits.{recordSize, maxDepth, labelSize}
 use Rattle.labelling.specs.Labels.{labelOf}
 use Rattle.labelling.proofs.LabelWords.{labelOf-take}
 use Rattle.records.specs.Records.{recordAt}

@@ -5,8 +5,8 @@ use mathlib.Core.Bool.{Bool, true, false, not}
 use native.Mathlib.Omega.{arith}
 use lib.Dec.{ltb, eqb}
 use borrow.Author.Tests.{eq-eqb, ne-eqb, le-ltb, lt-ltb, le-leb, lt-leb, not-true, not-false}
-use Rattle.labelling.specs.Limits.{recordSize, maxElements}
-use Rattle.labelling.specs.Refusals.{check, refuse, storeSize, noSpace}
+use Rattle.basics.specs.Limits.{recordSize, maxElements}
+use Rattle.basics.specs.Refusals.{check, refuse, storeSize, noSpace}
 use Rattle.storage.specs.Store.{isSlice, sizeCheck}
 use Rattle.storage.specs.Updates.{spaceCheck}
 use Rattle.refusals.specs.Answers.{verdictOf}

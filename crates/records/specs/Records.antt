@@ -2,7 +2,7 @@
 use mathlib.Core.List.{List}
 use Prim.Native.Nat.{ℕ, _*_}
 use lib.ListN.{take, drop}
-use Rattle.labelling.specs.Limits.{recordSize}
+use Rattle.basics.specs.Limits.{recordSize}
 
 -- record r of a slice
 unfoldable pub recordAt : ℕ → List ℕ → List ℕ

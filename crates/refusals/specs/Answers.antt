@@ -2,8 +2,8 @@
 use mathlib.Core.List.{List}
 use mathlib.Core.Option.{Option, none, some}
 use Prim.Native.Nat.{ℕ}
-use Rattle.labelling.specs.Refusals as model
-use Rattle.labelling.specs.Outputs as outputs
+use Rattle.basics.specs.Refusals as model
+use Rattle.basics.specs.Outputs as outputs
 use Rattle.refusals.specs.declared.Refusal.{Refusal}
 use Rattle.refusals.specs.declared.Verdict.{Verdict}
 use Rattle.refusals.specs.declared.Verdict.the-variants as verdict

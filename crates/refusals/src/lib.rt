@@ -1,7 +1,7 @@
 // Refusals as data: a number and a place. This is the only code that says which number is what.
 
 ghost use mathlib.Core.Path.{_≡_};
-ghost use Rattle.labelling.specs.Refusals as model;
+ghost use Rattle.basics.specs.Refusals as model;
 ghost use Rattle.refusals.specs.Answers.{verdictOf, refusedBy};
 
 // A refusal of a call. The place is the record or pair from 0, the component from 1, or 0.

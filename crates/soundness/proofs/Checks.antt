@@ -4,9 +4,9 @@ use mathlib.Core.Path.{_≡_, refl, sym, ap, ap₂, _∙_}
 use mathlib.Core.List.{List, []}
 use mathlib.Core.Option.{Option, none, some}
 use native.Mathlib.Omega.{arith}
-use Rattle.labelling.specs.Basics.{elim?}
-use Rattle.labelling.specs.Refusals.{refuse, unsound}
-use Rattle.labelling.specs.Names.{Clues}
+use Rattle.basics.specs.Basics.{elim?}
+use Rattle.basics.specs.Refusals.{refuse, unsound}
+use Rattle.naming.specs.Names.{Clues}
 use Rattle.storage.specs.Store as model
 use Rattle.storage.proofs.Faults.{rule-number}
 use Rattle.refusals.specs.Answers.{verdictOf}

@@ -10,9 +10,9 @@ use mathlib.Core.Logic.{by-cases}
 use native.Mathlib.Decide.{decLt}
 use lib.Dec.{T}
 use borrow.Author.Tests.{le-leb, leb-true, not-true, not-false}
-use Rattle.labelling.specs.Limits.{maxComponent, maxDepth, labelSize, recordSize}
+use Rattle.basics.specs.Limits.{maxComponent, maxDepth, labelSize, recordSize}
 use Rattle.storage.specs.Store.{laidOut}
-use Rattle.labelling.proofs.Tests.{is-true, is-false}
+use Rattle.basics.proofs.Tests.{is-true, is-false}
 use Rattle.records.specs.Records.{recordAt}
 use Rattle.records.proofs.Parts.{record-word, record-depth}
 use Rattle.layouts.specs.Words.{wordFits, restFits, wordsFit}

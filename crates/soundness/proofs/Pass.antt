@@ -11,13 +11,13 @@ use lib.ListN.{length, getD, take, set}
 use lib.Seq.{take-take, take-all, length-take-le, getD-set-same, getD-set-other}
 use lib.Dec.{T, ltb, eqb}
 use borrow.Author.Tests.{eqb-true}
-use Rattle.labelling.specs.Basics.{elim?, last}
-use Rattle.labelling.specs.Limits.{recordSize}
-use Rattle.labelling.specs.Names.{Clues}
+use Rattle.basics.specs.Basics.{elim?, last}
+use Rattle.basics.specs.Limits.{recordSize}
+use Rattle.naming.specs.Names.{Clues}
 use Rattle.labelling.specs.Labels.{Label, before, shared, same, above}
 use Rattle.storage.specs.Store.{Element, Rule, readElement, find, test, laidOut, leads, closed, broken, parentRule, nameRule, lastRule, nextRule}
-use Rattle.labelling.proofs.Tests.{Tells, passes, fails, eq?, and-iff, eqb-alike}
-use Rattle.labelling.proofs.Lists.{nowhere, for-cons}
+use Rattle.basics.proofs.Tests.{Tells, passes, fails, eq?, and-iff, eqb-alike}
+use Rattle.basics.proofs.Lists.{nowhere, for-cons}
 use Rattle.labelling.proofs.LabelOrder.{before-order, same?}
 use Rattle.labelling.proofs.Kinship.{shared-alike, shared-low}
 use Rattle.storage.proofs.Relaid.{test-none, test-rest, test-passes}

@@ -12,11 +12,11 @@ use lib.ListN.{length, getD, drop, set, replicate, length-set}
 use lib.Seq.{drop-drop}
 use lib.Dec.{T, eqb, ltb}
 use borrow.Author.Tests.{not-true}
-use Rattle.labelling.specs.Basics.{elim?}
-use Rattle.labelling.specs.Limits.{maxDepth, recordSize}
-use Rattle.labelling.specs.Names.{Clues}
+use Rattle.basics.specs.Basics.{elim?}
+use Rattle.basics.specs.Limits.{maxDepth, recordSize}
+use Rattle.naming.specs.Names.{Clues}
 use Rattle.storage.specs.Store as model
-use Rattle.labelling.proofs.Tests.{and-iff, is-true}
+use Rattle.basics.proofs.Tests.{and-iff, is-true}
 use Rattle.storage.proofs.Relaid.{laid-depth}
 use Rattle.records.specs.Records.{recordAt}
 use Rattle.records.proofs.Parts.{record-depth}

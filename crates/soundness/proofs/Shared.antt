@@ -7,7 +7,7 @@ use native.Mathlib.Omega.{arith}
 use lib.ListN.{length, getD, drop}
 use lib.Seq.{getD-take, getD-drop}
 use borrow.Author.Tests.{le-leb}
-use Rattle.labelling.specs.Limits.{maxComponent, maxDepth, recordSize}
+use Rattle.basics.specs.Limits.{maxComponent, maxDepth, recordSize}
 use Rattle.labelling.specs.Labels.{labelOf, shared}
 use Rattle.labelling.proofs.Kinship.{shared-alike, shared-low, shared-comm}
 use Rattle.records.specs.Records.{recordAt}

@@ -9,10 +9,10 @@ use native.Mathlib.Omega.{arith}
 use lib.ListN.{length, getD, take}
 use lib.Seq.{length-take-le}
 use lib.Dec.{T}
-use Rattle.labelling.specs.Basics.{_∈_, last}
+use Rattle.basics.specs.Basics.{_∈_, last}
 use Rattle.labelling.specs.Labels.{Label, before, shared, within, above}
 use Rattle.storage.specs.Store.{Element, readElement, find}
-use Rattle.labelling.proofs.Tests.{decide}
+use Rattle.basics.proofs.Tests.{decide}
 use Rattle.labelling.proofs.LabelOrder.{before-one-way, before-nonroot, above-last, extend-before, within-iff, within-self}
 use Rattle.labelling.proofs.Kinship.{shared-alike, shared-most}
 use Rattle.storage.proofs.Finding.{find-mem}

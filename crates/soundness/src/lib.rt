@@ -18,7 +18,7 @@ ghost use mathlib.Core.Path.{_≡_};
 ghost use mathlib.Core.List.{[]};
 ghost use Prim.Native.Nat.{_+_, _-_, _*_, _≤_};
 ghost use lib.ListN.{length, getD};
-ghost use Rattle.labelling.specs.Names.{cluesOf};
+ghost use Rattle.naming.specs.Names.{cluesOf};
 ghost use Rattle.storage.specs.Store as model;
 ghost use Rattle.clue_lengths.specs.Lens.{lensOf};
 ghost use Rattle.refusals.specs.Answers.{verdictOf};

@@ -8,15 +8,15 @@ use Prim.Native.Nat.{ℕ, _<_}
 use native.Mathlib.Omega.{arith}
 use lib.ListN.{length, getD, length-map, List·getD-eq-default, List·getD-map}
 use lib.Dec.{T, ltb, ltb→lt, lt→ltb}
-use Rattle.labelling.specs.Basics.{_∈_, elim?, keep, upTo}
+use Rattle.basics.specs.Basics.{_∈_, elim?, keep, upTo}
 use Rattle.labelling.specs.Labels.{Label}
 use Rattle.patterns.specs.Twigs.{Twig, nodeAt, isLeaf, wanted}
 use Rattle.patterns.specs.Matches.{asks}
 use Rattle.storage.specs.Store.{Element}
 use Rattle.storage.specs.Cutting.{streams, stream}
-use Rattle.labelling.proofs.Tests.{Tells, passes, fails, tells}
-use Rattle.labelling.proofs.Lists.{nowhere, keep-iff}
-use Rattle.labelling.proofs.Ranges.{length-upTo, map-upTo}
+use Rattle.basics.proofs.Tests.{Tells, passes, fails, tells}
+use Rattle.basics.proofs.Lists.{nowhere, keep-iff}
+use Rattle.basics.proofs.Ranges.{length-upTo, map-upTo}
 
 -- the stream of record i, also past the twig's end
 streams-at : (t : Twig) (es : List Element) (i : ℕ) → getD (streams t es) i [] ≡ cond (ltb i (length t) && isLeaf t i) (stream (nodeAt t i .name) es) []

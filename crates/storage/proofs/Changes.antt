@@ -8,16 +8,16 @@ use Prim.Native.Nat.{ℕ, suc, _+_, _<_, _≤_}
 use native.Mathlib.Omega.{arith}
 use lib.ListN.{length, length-append, length-map}
 use lib.Dec.{T, T-not, not-T, ltb→lt}
-use Rattle.labelling.specs.Basics.{_∈_, elim?, Ascending, none-left, one-more}
-use Rattle.labelling.specs.Limits.{maxDepth}
-use Rattle.labelling.specs.Names.{Clues, placeIn}
+use Rattle.basics.specs.Basics.{_∈_, elim?, Ascending, none-left, one-more}
+use Rattle.basics.specs.Limits.{maxDepth}
+use Rattle.naming.specs.Names.{Clues, placeIn}
 use Rattle.labelling.specs.Numbers.{number, Least}
 use Rattle.labelling.specs.Labels.{Label, before, within, same}
 use Rattle.storage.specs.Store.{Element}
 use Rattle.storage.specs.Updates.{given, raised, placed, entered, without}
-use Rattle.labelling.proofs.Tests.{is-true, is-false, test-equal, or-iff, decide, Tells, passes, fails, tells}
-use Rattle.labelling.proofs.Lists.{here, there, here-or-there, nowhere, for-cons, for-map, keep-iff, keep-ascending, map-ascending, length-keep}
-use Rattle.labelling.proofs.NameTables.{placed-at}
+use Rattle.basics.proofs.Tests.{is-true, is-false, test-equal, or-iff, decide, Tells, passes, fails, tells}
+use Rattle.basics.proofs.Lists.{here, there, here-or-there, nowhere, for-cons, for-map, keep-iff, keep-ascending, map-ascending, length-keep}
+use Rattle.naming.proofs.NameTables.{placed-at}
 use Rattle.labelling.proofs.Number.{number-least}
 use Rattle.labelling.proofs.LabelOrder.{before-order, before-one-way, before-iff, before-extend, extend-before, before-cancel, within-iff, within-self, same-alike}
 use Rattle.storage.proofs.Words.{Fit}

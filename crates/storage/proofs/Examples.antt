@@ -2,8 +2,9 @@
 use mathlib.Core.Path.{_≡_, refl}
 use mathlib.Core.List.{[], _∷_}
 use mathlib.Core.Option.{some}
-use Rattle.labelling.specs.Names.{cluesOf}
-use Rattle.labelling.specs.Examples.{Hold, shortTable}
+use Rattle.naming.specs.Names.{cluesOf}
+use Rattle.basics.specs.Examples.{Hold}
+use Rattle.naming.specs.Examples.{shortTable}
 use Rattle.storage.specs.Store.{elementWords, layoutRule, broken}
 use Rattle.storage.specs.Examples.{elementOf, updateChecks}
 use Rattle.storage.proofs.Computing.{computing}

@@ -7,9 +7,9 @@ use Prim.Native.Nat.{ℕ, zero, suc, _+_, _<_}
 use native.Mathlib.Nat.{le-of-suc-le-suc}
 use native.Mathlib.Omega.{arith}
 use lib.ListN.{length, getD, take}
-use Rattle.labelling.specs.Basics.{elim?}
-use Rattle.labelling.specs.Refusals.{Refusal, refuse, unsound}
-use Rattle.labelling.specs.Names.{Clues}
+use Rattle.basics.specs.Basics.{elim?}
+use Rattle.basics.specs.Refusals.{Refusal, refuse, unsound}
+use Rattle.naming.specs.Names.{Clues}
 use Rattle.storage.specs.Store.{Element, Rule, readElement, records, broken, Fault, fault, numberOf, soundCheck, layoutRule, orderRule, parentRule, nameRule, lastRule, nextRule}
 use Rattle.storage.proofs.Sizes.{length-records}
 use Rattle.storage.proofs.Rules.{Keeps, Breaks, broken-none, broken-some}

@@ -4,11 +4,11 @@ use mathlib.Core.Logic.{_↔_}
 use mathlib.Core.Bool.{Bool, true, false, cond}
 use mathlib.Core.List.{List, [], _∷_, _++_, Memᴰ·append-right}
 use mathlib.Core.Option.{Option, none, some, Option·none-ne-some, Option·some-ne-none, Option·some-injective}
-use Rattle.labelling.specs.Basics.{_∈_}
+use Rattle.basics.specs.Basics.{_∈_}
 use Rattle.labelling.specs.Labels.{Label, same}
 use Rattle.storage.specs.Store.{Element, find}
-use Rattle.labelling.proofs.Tests.{Tells, passes, fails, is-true, is-false}
-use Rattle.labelling.proofs.Lists.{here, there, nowhere, for-cons}
+use Rattle.basics.proofs.Tests.{Tells, passes, fails, is-true, is-false}
+use Rattle.basics.proofs.Lists.{here, there, nowhere, for-cons}
 use Rattle.labelling.proofs.LabelOrder.{same-alike, same?}
 
 -- no element is found for a label exactly if none has it

@@ -5,20 +5,20 @@ use mathlib.Core.Option.{none}
 use Prim.Native.Nat.{ℕ, _≤_}
 use lib.ListN.{length, take}
 use lib.Dec.{leb, le→leb}
-use Rattle.labelling.specs.Basics.{over, joined}
-use Rattle.labelling.specs.Limits.{maxDepth, maxElements, maxName}
-use Rattle.labelling.specs.Refusals.{first, shortOutput, badRoot}
-use Rattle.labelling.specs.Names.{tableCheck, cluesOf, rootCheck, isName}
+use Rattle.basics.specs.Basics.{over, joined}
+use Rattle.basics.specs.Limits.{maxDepth, maxElements, maxName}
+use Rattle.basics.specs.Refusals.{first, shortOutput, badRoot}
+use Rattle.naming.specs.Names.{tableCheck, cluesOf, rootCheck, isName}
 use Rattle.patterns.specs.Twigs.{nameCheck, twigCheck, leafNames, wanted, readTwig}
 use Rattle.patterns.specs.Matches.{labelsWords, matchWords, matches}
 use Rattle.storage.specs.Store.{Element, soundCheck, elements, sizeCheck}
-use Rattle.labelling.specs.Outputs.{listed, Listing, roomCheck}
+use Rattle.basics.specs.Outputs.{listed, Listing, roomCheck}
 use Rattle.storage.specs.Cutting.{cut, Cuts, cutRefusal, cutWords, stream, fullList, streams}
 use Rattle.patterns.specs.Matching.{matchCall, matchRefusal, matchesOf}
-use Rattle.labelling.proofs.Refusals.{check-passed}
+use Rattle.basics.proofs.Refusals.{check-passed}
 use Rattle.patterns.proofs.MatchWords.{length-labelsWords}
 use Rattle.storage.proofs.Words.{Fit}
-use Rattle.labelling.proofs.Outputs.{take-over, listed-refusal, listed-whole}
+use Rattle.basics.proofs.Outputs.{take-over, listed-refusal, listed-whole}
 use Rattle.storage.proofs.SoundStore.{SoundElements}
 use Rattle.storage.proofs.StreamWords.{for-stream, dealt-wanted, streams-laid}
 

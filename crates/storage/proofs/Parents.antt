@@ -8,17 +8,17 @@ use native.Mathlib.Decide.{decLt}
 use native.Mathlib.Omega.{arith}
 use lib.ListN.{length}
 use lib.Dec.{T, leb, ltb, leb→le, le→leb, ltb→lt, lt→ltb}
-use Rattle.labelling.specs.Basics.{_∈_, elim?, stands}
-use Rattle.labelling.specs.Limits.{maxComponent, maxDepth}
-use Rattle.labelling.specs.Refusals.{Refusal, refuse, check, first, noRecord, notInClue, tooDeep, noNumber, rootStays}
-use Rattle.labelling.specs.Names.{Clues, placeIn}
+use Rattle.basics.specs.Basics.{_∈_, elim?, stands}
+use Rattle.basics.specs.Limits.{maxComponent, maxDepth}
+use Rattle.basics.specs.Refusals.{Refusal, refuse, check, first, noRecord, notInClue, tooDeep, noNumber, rootStays}
+use Rattle.naming.specs.Names.{Clues, placeIn}
 use Rattle.labelling.specs.Labels.{Label}
 use Rattle.storage.specs.Store.{Element, find}
 use Rattle.storage.specs.Updates.{parentCheck, given, rootStaysCheck, foundCheck}
-use Rattle.labelling.proofs.Tests.{decide}
-use Rattle.labelling.proofs.Refusals.{check-passed, check-failed, check-iff, refuse-number, first-here, first-next, first-both, check-none}
-use Rattle.labelling.proofs.Once.{stands-iff}
-use Rattle.labelling.proofs.NameTables.{placeIn-none}
+use Rattle.basics.proofs.Tests.{decide}
+use Rattle.basics.proofs.Refusals.{check-passed, check-failed, check-iff, refuse-number, first-here, first-next, first-both, check-none}
+use Rattle.basics.proofs.Lists.{stands-iff}
+use Rattle.naming.proofs.NameTables.{placeIn-none}
 use Rattle.storage.proofs.Finding.{find-none, find-mem}
 
 -- a name of a clue has a place

@@ -1,6 +1,6 @@
 -- Every refusal of new store, entry, deletion and cutting at its corner is what the paper says.
 use mathlib.Core.Path.{refl}
-use Rattle.labelling.specs.Examples.{Hold}
+use Rattle.basics.specs.Examples.{Hold}
 use Rattle.storage.specs.RefusalChecks.{newStoreRefusals, entryRefusals, deletionRefusals, cutRefusals}
 use Rattle.storage.proofs.Computing.{computing}
 

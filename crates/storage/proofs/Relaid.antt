@@ -8,12 +8,12 @@ use native.Mathlib.Omega.{arith}
 use lib.ListN.{length, getD, take, drop, take-append-drop, length-drop}
 use lib.Seq.{take-add, length-take-le, getD-take, getD-drop}
 use lib.Dec.{T, ltb, eqb}
-use Rattle.labelling.specs.Basics.{elim?, joined}
-use Rattle.labelling.specs.Limits.{maxDepth, labelSize, recordSize}
-use Rattle.labelling.specs.Names.{Clues}
+use Rattle.basics.specs.Basics.{elim?, joined}
+use Rattle.basics.specs.Limits.{maxDepth, labelSize, recordSize}
+use Rattle.naming.specs.Names.{Clues}
 use Rattle.labelling.specs.Labels.{labelWords}
 use Rattle.storage.specs.Store.{Element, Rule, elementWords, storeWords, readElement, records, elements, test, laidOut, broken, fault}
-use Rattle.labelling.proofs.Tests.{and-iff}
+use Rattle.basics.proofs.Tests.{and-iff}
 use Rattle.labelling.proofs.LabelWords.{isLabel-iff, labelOf-take, labelWords-labelOf}
 
 -- a list of four is its members

@@ -9,12 +9,12 @@ use native.Mathlib.Decide.{decLt}
 use native.Mathlib.Omega.{arith}
 use lib.ListN.{length, getD, take}
 use lib.Dec.{T, ltb, eqb, leb→le, le→leb, ltb→lt, lt→ltb}
-use Rattle.labelling.specs.Basics.{_∈_, elim?, last}
-use Rattle.labelling.specs.Limits.{maxName, maxDepth, labelSize}
-use Rattle.labelling.specs.Names.{Clues, led, isName}
+use Rattle.basics.specs.Basics.{_∈_, elim?, last}
+use Rattle.basics.specs.Limits.{maxName, maxDepth, labelSize}
+use Rattle.naming.specs.Names.{Clues, led, isName}
 use Rattle.labelling.specs.Labels.{before, above}
 use Rattle.storage.specs.Store.{Element, Rule, readElement, find, test, laidOut, leads, closed, broken, layoutRule, orderRule, parentRule, nameRule, lastRule, nextRule}
-use Rattle.labelling.proofs.Tests.{and-facts, or-facts, eqb-alike}
+use Rattle.basics.proofs.Tests.{and-facts, or-facts, eqb-alike}
 use Rattle.labelling.proofs.LabelOrder.{Precedes, precedes-iff}
 use Rattle.labelling.proofs.LabelWords.{IsLabel, isLabel-iff}
 use Rattle.storage.proofs.Finding.{FirstWith, find-iff, find-none, find-mem}

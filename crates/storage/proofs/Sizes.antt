@@ -7,15 +7,15 @@ use mathlib.Core.Option.{none}
 use Prim.Native.Nat.{zero, suc, ℕ, _%_, _*_, _<_, _≤_, _+_}
 use lib.ListN.{drop, length, length-map}
 use lib.Dec.{T, ltb, leb, eqb, leb→le, ltb→lt, lt→ltb, le→leb}
-use Rattle.labelling.specs.Basics.{_∈_}
-use Rattle.labelling.specs.Limits.{recordSize, maxElements}
-use Rattle.labelling.specs.Refusals.{noSpace, storeSize}
+use Rattle.basics.specs.Basics.{_∈_}
+use Rattle.basics.specs.Limits.{recordSize, maxElements}
+use Rattle.basics.specs.Refusals.{noSpace, storeSize}
 use Rattle.labelling.specs.Labels.{Label, within, before}
 use Rattle.storage.specs.Store.{readElement, elements, isSlice, sizeCheck, records, Element}
 use Rattle.storage.specs.Updates.{placed, spaceCheck}
-use Rattle.labelling.proofs.Tests.{eqb-alike, and-facts}
-use Rattle.labelling.proofs.Lists.{for-cons, here, there}
-use Rattle.labelling.proofs.Refusals.{check-iff}
+use Rattle.basics.proofs.Tests.{eqb-alike, and-facts}
+use Rattle.basics.proofs.Lists.{for-cons, here, there}
+use Rattle.basics.proofs.Refusals.{check-iff}
 
 -- a slice's length is accepted for a new store exactly if it is a multiple of 20, not 0
 pub slice-iff : (len : ℕ) → T (isSlice len) ↔ ((len % recordSize ≡ 0) × (0 < len))

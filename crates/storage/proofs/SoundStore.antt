@@ -8,12 +8,12 @@ use native.Mathlib.Omega.{arith}
 use lib.ListN.{length, getD, take, drop, length-take, length-drop}
 use lib.Seq.{length-take-le}
 use lib.Dec.{T}
-use Rattle.labelling.specs.Basics.{_∈_, all, last, Ascending, none-left, one-more}
-use Rattle.labelling.specs.Limits.{maxName, labelSize, recordSize}
-use Rattle.labelling.specs.Names.{Clues, led}
+use Rattle.basics.specs.Basics.{_∈_, all, last, Ascending, none-left, one-more}
+use Rattle.basics.specs.Limits.{maxName, labelSize, recordSize}
+use Rattle.naming.specs.Names.{Clues, led}
 use Rattle.labelling.specs.Labels.{Label, before, above, nameAt, endOf, decode, labelOf}
 use Rattle.storage.specs.Store.{Element, readElement, records, elements, laidOut, broken, fault, rootOf, sizeCheck, soundCheck, layoutRule, orderRule, parentRule, nameRule, lastRule, nextRule}
-use Rattle.labelling.proofs.Lists.{here, there, nowhere, for-cons}
+use Rattle.basics.proofs.Lists.{here, there, nowhere, for-cons}
 use Rattle.labelling.proofs.LabelOrder.{before-order, above-last, above-before, precedes-iff}
 use Rattle.labelling.proofs.Decode.{name-child}
 use Rattle.labelling.proofs.LabelWords.{GoodLabel, isLabel-iff, labelOf-good, labelOf-take}

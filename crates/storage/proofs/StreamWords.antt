@@ -8,18 +8,18 @@ use native.Mathlib.Omega.{arith}
 use lib.ListN.{length, getD, take, drop, length-map, length-append, List·getD-map}
 use lib.Seq.{take-at, drop-at}
 use lib.Dec.{T, leb, le→leb}
-use Rattle.labelling.specs.Basics.{_∈_, elim?, all, keep, joined, total, Ascending, none-left, one-more}
-use Rattle.labelling.specs.Limits.{maxDepth, maxElements, labelSize, anyName}
-use Rattle.labelling.specs.Names.{Clues}
+use Rattle.basics.specs.Basics.{_∈_, elim?, all, keep, joined, total, Ascending, none-left, one-more}
+use Rattle.basics.specs.Limits.{maxDepth, maxElements, labelSize, anyName}
+use Rattle.naming.specs.Names.{Clues}
 use Rattle.labelling.specs.Labels.{Label, before, labelWords, labelOf}
 use Rattle.patterns.specs.Twigs.{Twig, wanted, leafNames}
 use Rattle.patterns.specs.Matches.{GoodStreams, fits, asks, labelsWords}
 use Rattle.storage.specs.Store.{Element}
 use Rattle.storage.specs.Cutting.{stream, streams}
 use Rattle.patterns.specs.Matching.{labelsIn, dealt, inStream, streamCheck, labelsCheck, streamsCheck}
-use Rattle.labelling.proofs.Tests.{and-iff, eqb-alike}
-use Rattle.labelling.proofs.Lists.{here, there, for-map, keep-iff, keep-ascending, map-ascending, length-keep, keep-all}
-use Rattle.labelling.proofs.Refusals.{check-passed, first-passed, last-passed}
+use Rattle.basics.proofs.Tests.{and-iff, eqb-alike}
+use Rattle.basics.proofs.Lists.{here, there, for-map, keep-iff, keep-ascending, map-ascending, length-keep, keep-all}
+use Rattle.basics.proofs.Refusals.{check-passed, first-passed, last-passed}
 use Rattle.labelling.proofs.LabelWords.{GoodLabel, labelOf-labelWords, labelWords-good, length-labelWords}
 use Rattle.patterns.proofs.MatchWords.{length-labelsWords}
 use Rattle.storage.proofs.Words.{Fit}

@@ -7,15 +7,15 @@ use Prim.Native.Nat.{ℕ, _+_, _-_, _*_}
 use native.Mathlib.Omega.{arith}
 use lib.ListN.{length, take, drop, replicate, length-append, length-replicate}
 use lib.Seq.{take-at, drop-at}
-use Rattle.labelling.specs.Basics.{elim?, over}
-use Rattle.labelling.specs.Limits.{labelSize, recordSize}
-use Rattle.labelling.specs.Refusals.{Refusal}
-use Rattle.labelling.specs.Names.{cluesOf, tableCheck}
+use Rattle.basics.specs.Basics.{elim?, over}
+use Rattle.basics.specs.Limits.{labelSize, recordSize}
+use Rattle.basics.specs.Refusals.{Refusal}
+use Rattle.naming.specs.Names.{cluesOf, tableCheck}
 use Rattle.labelling.specs.Labels.{labelOf, labelWords, labelCheck}
 use Rattle.storage.specs.Store.{Element, elementWords, storeWords, elements, find, elementAt, sizeCheck, soundCheck}
 use Rattle.storage.specs.Updates.{Answer, newStoreRefusal, newStore, parentCheck, spaceCheck, entryRefusal, given, entered, enter, rootStaysCheck, foundCheck, deletionRefusal, without, delete}
-use Rattle.labelling.proofs.Refusals.{check-none, first-none, first-iff, last-iff, taken, refused-is}
-use Rattle.labelling.proofs.Outputs.{take-over, drop-over, length-over}
+use Rattle.basics.proofs.Refusals.{check-none, first-none, first-iff, last-iff, taken, refused-is}
+use Rattle.basics.proofs.Outputs.{take-over, drop-over, length-over}
 use Rattle.storage.proofs.Words.{length-elementWords, length-storeWords}
 use Rattle.storage.proofs.Sizes.{slice-iff, size-iff, space-iff, length-elements-read}
 use Rattle.storage.proofs.SoundStore.{sound-fit}

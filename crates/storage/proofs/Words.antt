@@ -5,11 +5,11 @@ use Prim.Native.Nat.{ℕ, suc, _+_, _*_, _≤_}
 use native.Mathlib.Omega.{arith}
 use lib.ListN.{length, getD, take, drop, length-append}
 use lib.Seq.{take-at, getD-append-add, take-add, take-take}
-use Rattle.labelling.specs.Basics.{_∈_, joined}
-use Rattle.labelling.specs.Limits.{maxDepth, labelSize, recordSize}
+use Rattle.basics.specs.Basics.{_∈_, joined}
+use Rattle.basics.specs.Limits.{maxDepth, labelSize, recordSize}
 use Rattle.labelling.specs.Labels.{Label, labelWords}
 use Rattle.storage.specs.Store.{Element, elementWords, storeWords, readElement, records, elements}
-use Rattle.labelling.proofs.Lists.{here, there, length-joined}
+use Rattle.basics.proofs.Lists.{here, there, length-joined}
 use Rattle.labelling.proofs.LabelWords.{length-labelWords, labelOf-words}
 
 -- an element has twenty words

@@ -4,15 +4,15 @@ use mathlib.Core.List.{List, [], _∷_, map}
 use mathlib.Core.Option.{Option, none}
 use Prim.Native.Nat.{ℕ, _*_}
 use lib.ListN.{length, take}
-use Rattle.labelling.specs.Basics.{elim?, keep}
-use Rattle.labelling.specs.Limits.{labelSize}
-use Rattle.labelling.specs.Refusals.{Refusal, first}
-use Rattle.labelling.specs.Names.{cluesOf, tableCheck, Clues}
+use Rattle.basics.specs.Basics.{elim?, keep}
+use Rattle.basics.specs.Limits.{labelSize}
+use Rattle.basics.specs.Refusals.{Refusal, first}
+use Rattle.naming.specs.Names.{cluesOf, tableCheck, Clues}
 use Rattle.labelling.specs.Labels.{Label}
 use Rattle.patterns.specs.Twigs.{Twig, nameCheck, wanted}
 use Rattle.patterns.specs.Matches.{asks, labelsWords, Match, matches}
 use Rattle.storage.specs.Store.{Element, elements, sizeCheck, soundCheck}
-use Rattle.labelling.specs.Outputs.{Listing, listed, roomCheck}
+use Rattle.basics.specs.Outputs.{Listing, listed, roomCheck}
 
 -- the labels of the elements that a name asks for
 unfoldable pub stream : ℕ → List Element → List Label

@@ -2,9 +2,10 @@
 use mathlib.Core.List.{List, [], _∷_, _++_}
 use Prim.Native.Nat.{ℕ}
 use lib.ListN.{replicate}
-use Rattle.labelling.specs.Names.{cluesOf}
+use Rattle.naming.specs.Names.{cluesOf}
 use Rattle.labelling.specs.Labels.{Label, labelWords}
-use Rattle.labelling.specs.Examples.{Check, is, shown, shortTable}
+use Rattle.basics.specs.Examples.{Check, is, shown}
+use Rattle.naming.specs.Examples.{shortTable}
 use Rattle.storage.specs.Store.{Element, elementWords, storeWords, rootOf, soundCheck}
 use Rattle.storage.specs.Updates.{Answer, newStore, enter, delete}
 

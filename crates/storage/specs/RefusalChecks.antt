@@ -4,10 +4,11 @@ use mathlib.Core.List.{List, [], _∷_, _++_, map}
 use Prim.Native.Nat.{ℕ}
 use lib.ListN.{replicate}
 use lib.Dec.{eqb}
-use Rattle.labelling.specs.Basics.{upTo}
-use Rattle.labelling.specs.Limits.{filler, recordSize, maxDepth, anyName}
+use Rattle.basics.specs.Basics.{upTo}
+use Rattle.basics.specs.Limits.{filler, recordSize, maxDepth, anyName}
 use Rattle.labelling.specs.Labels.{Label, labelWords}
-use Rattle.labelling.specs.Examples.{Check, is, shown, tornTable, loopTable}
+use Rattle.basics.specs.Examples.{Check, is, shown}
+use Rattle.naming.specs.Examples.{tornTable, loopTable}
 use Rattle.storage.specs.Store.{Element, elementWords, storeWords}
 use Rattle.storage.specs.Updates.{delete, enter, newStore}
 use Rattle.storage.specs.Cutting.{cut}

@@ -5,10 +5,10 @@ use mathlib.Core.Option.{Option, none, some}
 use Prim.Native.Nat.{ℕ, zero, suc, _*_, _%_, _+_}
 use lib.ListN.{length, getD, take, drop}
 use lib.Dec.{ltb, leb, eqb}
-use Rattle.labelling.specs.Basics.{elim?, last, joined}
-use Rattle.labelling.specs.Limits.{maxDepth, maxElements, labelSize, recordSize, nameWord, nextWord, payloadWord}
-use Rattle.labelling.specs.Refusals.{Refusal, refuse, check, storeSize, unsound}
-use Rattle.labelling.specs.Names.{Clues, led, isName}
+use Rattle.basics.specs.Basics.{elim?, last, joined}
+use Rattle.basics.specs.Limits.{maxDepth, maxElements, labelSize, recordSize, nameWord, nextWord, payloadWord}
+use Rattle.basics.specs.Refusals.{Refusal, refuse, check, storeSize, unsound}
+use Rattle.naming.specs.Names.{Clues, led, isName}
 use Rattle.labelling.specs.Labels.{Label, before, same, above, labelOf, labelWords, isLabel}
 
 -- an element: its label, its name, its next number f and two payload words that nothing here reads

@@ -5,10 +5,10 @@ use mathlib.Core.Option.{Option, none, some}
 use Prim.Native.Nat.{ℕ, _+_, _-_, _*_}
 use lib.ListN.{length, replicate}
 use lib.Dec.{ltb, leb}
-use Rattle.labelling.specs.Basics.{elim?, keep, over}
-use Rattle.labelling.specs.Limits.{maxComponent, maxDepth, maxElements, labelSize, recordSize}
-use Rattle.labelling.specs.Refusals.{Refusal, refuse, check, first, noRecord, notInClue, tooDeep, noNumber, noSpace, rootStays, storeSize}
-use Rattle.labelling.specs.Names.{Clues, cluesOf, placeIn, tableCheck, rootCheck}
+use Rattle.basics.specs.Basics.{elim?, keep, over}
+use Rattle.basics.specs.Limits.{maxComponent, maxDepth, maxElements, labelSize, recordSize}
+use Rattle.basics.specs.Refusals.{Refusal, refuse, check, first, noRecord, notInClue, tooDeep, noNumber, noSpace, rootStays, storeSize}
+use Rattle.naming.specs.Names.{Clues, cluesOf, placeIn, tableCheck, rootCheck}
 use Rattle.labelling.specs.Numbers.{number}
 use Rattle.labelling.specs.Labels.{Label, before, within, same, labelOf, labelWords, labelCheck}
 use Rattle.storage.specs.Store.{Element, elementWords, storeWords, elements, find, elementAt, isSlice, sizeCheck, soundCheck}

@@ -6,12 +6,12 @@ use mathlib.Core.List.{List}
 use native.Mathlib.Omega.{arith}
 use lib.ListN.{length}
 use lib.Dec.{ltb, leb}
-use Rattle.labelling.specs.Basics.{all}
-use Rattle.labelling.specs.Limits.{recordSize, maxElements}
-use Rattle.labelling.specs.Refusals.{refuse, badTable, storeSize}
-use Rattle.labelling.specs.Names.{cluesOf, goodRow, tableCheck}
+use Rattle.basics.specs.Basics.{all}
+use Rattle.basics.specs.Limits.{recordSize, maxElements}
+use Rattle.basics.specs.Refusals.{refuse, badTable, storeSize}
+use Rattle.naming.specs.Names.{cluesOf, goodRow, tableCheck}
 use Rattle.storage.specs.Store as model
-use Rattle.labelling.proofs.Refusals.{first-rest, first-here, first-last}
+use Rattle.basics.proofs.Refusals.{first-rest, first-here, first-last}
 use Rattle.storage.proofs.Sizes.{size-iff}
 use Rattle.refusals.specs.Answers.{verdictOf}
 use Rattle.refusals.specs.declared.Refusal.{Refusal}

@@ -4,11 +4,11 @@ use mathlib.Core.Path.{_≡_, _∙_}
 use mathlib.Core.List.{List, [], _∷_}
 use mathlib.Core.Option.{Option, none, some, Option·none-ne-some}
 use lib.ListN.{length}
-use Rattle.labelling.specs.Limits.{recordSize}
-use Rattle.labelling.specs.Refusals.{Refusal, first}
-use Rattle.labelling.specs.Names.{cluesOf, tableCheck}
+use Rattle.basics.specs.Limits.{recordSize}
+use Rattle.basics.specs.Refusals.{Refusal, first}
+use Rattle.naming.specs.Names.{cluesOf, tableCheck}
 use Rattle.storage.specs.Store.{sizeCheck, soundCheck}
-use Rattle.labelling.proofs.Refusals.{first-none, first-rest}
+use Rattle.basics.proofs.Refusals.{first-none, first-rest}
 use Rattle.storage.proofs.Sizes.{size-iff}
 use Rattle.store_checks.specs.Stores.{storeCheck}
 

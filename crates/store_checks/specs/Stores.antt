@@ -3,8 +3,8 @@ use mathlib.Core.List.{List, [], _∷_}
 use mathlib.Core.Option.{Option}
 use Prim.Native.Nat.{ℕ}
 use lib.ListN.{length}
-use Rattle.labelling.specs.Refusals.{Refusal, first}
-use Rattle.labelling.specs.Names.{cluesOf, tableCheck}
+use Rattle.basics.specs.Refusals.{Refusal, first}
+use Rattle.naming.specs.Names.{cluesOf, tableCheck}
 use Rattle.storage.specs.Store.{sizeCheck, soundCheck}
 
 -- the checks of table, sizes and records, 22, 18, 19, in this order

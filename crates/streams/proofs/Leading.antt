@@ -8,9 +8,9 @@ use native.Mathlib.Omega.{arith}
 use native.Mathlib.Numerals.{add-one}
 use lib.ListN.{length, getD, take, drop, set, take-append-drop}
 use lib.Seq.{take-all, take-suc, take-suc-set, length-take-le}
-use Rattle.labelling.specs.Basics.{elim?, last}
-use Rattle.labelling.specs.Names.{Clues, led}
-use Rattle.labelling.specs.Limits.{maxDepth, labelSize}
+use Rattle.basics.specs.Basics.{elim?, last}
+use Rattle.naming.specs.Names.{Clues, led}
+use Rattle.basics.specs.Limits.{maxDepth, labelSize}
 use Rattle.labelling.specs.Labels.{Label, path, stuck, decode}
 use Rattle.labelling.proofs.Decode.{further, decode-snoc, decode-child, stuck-more, name-end}
 use Rattle.names.specs.Answers.{childOf}

@@ -7,9 +7,9 @@ use native.Mathlib.Omega.{arith}
 use lib.ListN.{length, getD, take}
 use lib.Dec.{T, eqb, eqb·suc-zero}
 use borrow.Author.Tests.{not-true, not-false}
-use Rattle.labelling.specs.Basics.{elim?}
-use Rattle.labelling.specs.Limits.{labelSize}
-use Rattle.labelling.specs.Names.{Clues}
+use Rattle.basics.specs.Basics.{elim?}
+use Rattle.basics.specs.Limits.{labelSize}
+use Rattle.naming.specs.Names.{Clues}
 use Rattle.labelling.specs.Labels.{Label, before, shared, Decoded, path, stuck, decode, endOf, nameAt, labelOf, isLabel}
 use Rattle.patterns.specs.Matches.{asks, fits}
 use Rattle.patterns.specs.Matching.{inStream}

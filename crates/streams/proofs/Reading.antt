@@ -12,13 +12,13 @@ use native.Mathlib.Numerals.{add-one}
 use lib.ListN.{length, getD, take, drop, set, replicate}
 use lib.Seq.{paste, take-all, take-suc, take-suc-set, drop-drop}
 use lib.Dec.{T}
-use Rattle.labelling.specs.Basics.{elim?}
-use Rattle.labelling.specs.Limits.{labelSize, maxDepth}
-use Rattle.labelling.specs.Refusals.{refuse, badStream}
-use Rattle.labelling.specs.Names.{Clues}
+use Rattle.basics.specs.Basics.{elim?}
+use Rattle.basics.specs.Limits.{labelSize, maxDepth}
+use Rattle.basics.specs.Refusals.{refuse, badStream}
+use Rattle.naming.specs.Names.{Clues}
 use Rattle.labelling.specs.Labels.{shared, decode, isLabel}
 use Rattle.patterns.specs.Matching.{labelsIn, streamCheck}
-use Rattle.labelling.proofs.Tests.{is-true}
+use Rattle.basics.proofs.Tests.{is-true}
 use Rattle.labelling.proofs.LabelWords.{labelOf-good}
 use Rattle.patterns.proofs.StreamChecks.{inStream-iff, streamCheck-next, streamCheck-now}
 use Rattle.refusals.specs.Answers.{verdictOf}

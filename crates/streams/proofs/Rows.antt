@@ -6,7 +6,7 @@ use native.Mathlib.Omega.{arith}
 use native.Mathlib.Numerals.{add-one}
 use lib.ListN.{length, getD, take, drop, set, length-drop, take-append-drop}
 use lib.Seq.{paste, paste-suc, take-all, take-at, drop-at, take-append-le, drop-append-le, length-take-le, length-paste}
-use Rattle.labelling.specs.Limits.{labelSize}
+use Rattle.basics.specs.Limits.{labelSize}
 
 module _ (names paths₀ : List ℕ) (i j : ℕ) {paths : List ℕ} (inv : paths ≡ paste paths₀ (i * labelSize) names j) where
   -- one name more

@@ -8,8 +8,8 @@ use lib.ListN.{length, getD, take, drop, length-drop}
 use lib.Seq.{length-take-le}
 use lib.Dec.{eqb}
 use borrow.Author.Tests.{eq-eqb, ne-eqb}
-use Rattle.labelling.specs.Basics.{elim?}
-use Rattle.labelling.specs.Limits.{labelSize}
+use Rattle.basics.specs.Basics.{elim?}
+use Rattle.basics.specs.Limits.{labelSize}
 use Rattle.labelling.specs.Labels.{Label, before, labelOf, isLabel}
 use Rattle.patterns.specs.Matching.{labelsIn}
 use Rattle.patterns.proofs.Buffers.{labelsIn-words}

@@ -20,7 +20,7 @@ ghost use Prim.Native.Nat.{_+_, _*_, _<_, _≤_};
 ghost use lib.ListN.{length, getD, take};
 ghost use lib.Seq.{paste};
 ghost use lib.Dec.{eqb};
-ghost use Rattle.labelling.specs.Names.{cluesOf};
+ghost use Rattle.naming.specs.Names.{cluesOf};
 ghost use Rattle.labelling.specs.Labels as model;
 ghost use Rattle.patterns.specs.Matching.{labelsIn, streamCheck};
 ghost use Rattle.clue_lengths.specs.Lens.{lensOf};

@@ -9,11 +9,11 @@ use native.Mathlib.Numerals.{add-one}
 use lib.Dec.{eqb}
 use lib.ListN.{length, getD, take, drop, set, length-append, drop-of-length-le}
 use lib.Seq.{paste, paste-zero, paste-suc, take-all}
-use Rattle.labelling.specs.Basics.{joined, over, all}
-use Rattle.labelling.specs.Limits.{tableSize}
-use Rattle.labelling.specs.Refusals.{refuse, check, badTable}
-use Rattle.labelling.specs.Names.{tableCheck, goodRow, namesOf, isName}
-use Rattle.labelling.proofs.Tests.{is-true, is-false, eqb-alike}
+use Rattle.basics.specs.Basics.{joined, over, all}
+use Rattle.basics.specs.Limits.{tableSize}
+use Rattle.basics.specs.Refusals.{refuse, check, badTable}
+use Rattle.naming.specs.Names.{tableCheck, goodRow, namesOf, isName}
+use Rattle.basics.proofs.Tests.{is-true, is-false, eqb-alike}
 use Rattle.words.specs.Writing.{written}
 use Rattle.words.proofs.Writing.{written-over, written-none, written-after, written-paste}
 use Rattle.table_bytes.specs.Rows.{rowsIn, tableIn, tornRows}

@@ -7,9 +7,9 @@ use native.Mathlib.Nat.{zero-add}
 use native.Mathlib.Numerals.{add-one}
 use lib.ListN.{length, getD, take, drop, set, replicate, length-map, length-drop, length-replicate, drop-of-length-le}
 use lib.Seq.{paste-suc, take-all, length-take-le}
-use Rattle.labelling.specs.Basics.{upTo}
-use Rattle.labelling.specs.Limits.{tableSize, filler}
-use Rattle.labelling.proofs.Ranges.{length-upTo, map-upTo}
+use Rattle.basics.specs.Basics.{upTo}
+use Rattle.basics.specs.Limits.{tableSize, filler}
+use Rattle.basics.proofs.Ranges.{length-upTo, map-upTo}
 use Rattle.table_bytes.specs.Rows.{rowIn, rowsIn}
 
 -- of sixty-four places the first k are copied, the others hold what they held

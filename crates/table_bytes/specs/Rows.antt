@@ -4,8 +4,8 @@ use mathlib.Core.Bool.{cond}
 use mathlib.Core.List.{List, map}
 use lib.ListN.{length, take, drop, replicate}
 use lib.Dec.{eqb}
-use Rattle.labelling.specs.Basics.{upTo}
-use Rattle.labelling.specs.Limits.{tableSize}
+use Rattle.basics.specs.Basics.{upTo}
+use Rattle.basics.specs.Limits.{tableSize}
 
 -- row p of a table's bytes
 unfoldable pub rowIn : List ℕ → ℕ → List ℕ

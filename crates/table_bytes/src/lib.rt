@@ -7,7 +7,7 @@ use names::whole;
 ghost use mathlib.Core.Path.{_≡_};
 ghost use Prim.Native.Nat.{_+_, _*_, _≤_};
 ghost use lib.ListN.{length};
-ghost use Rattle.labelling.specs.Basics.{joined};
+ghost use Rattle.basics.specs.Basics.{joined};
 ghost use Rattle.table_bytes.specs.Rows.{rowsIn, tableIn};
 ghost use Rattle.words.specs.Writing.{written};
 

@@ -10,12 +10,12 @@ use lib.Dec.{eqb, eqb·zero-suc, eqb·suc-zero, eqb·suc-suc}
 use mir.Syntax.{w8}
 use mir.Val.{Fits}
 use borrow.Author.Tests.{le-leb, lt-leb, eq-eqb, ne-eqb, not-true, not-false}
-use Rattle.labelling.specs.Basics.{all, stands}
-use Rattle.labelling.specs.Limits.{maxName, tableSize, filler}
-use Rattle.labelling.specs.Refusals.{badTable, refuse, check}
-use Rattle.labelling.specs.Names.{isName, namesOf, twice, goodRow, tableCheck}
-use Rattle.labelling.proofs.Tests.{Tells, passes, fails, eq?}
-use Rattle.labelling.proofs.Scans.{from-cons, tail-is, all-end, all-stop, all-on}
+use Rattle.basics.specs.Basics.{all, stands}
+use Rattle.basics.specs.Limits.{maxName, tableSize, filler}
+use Rattle.basics.specs.Refusals.{badTable, refuse, check}
+use Rattle.naming.specs.Names.{isName, namesOf, twice, goodRow, tableCheck}
+use Rattle.basics.proofs.Tests.{Tells, passes, fails, eq?}
+use Rattle.basics.proofs.Scans.{from-cons, tail-is, all-end, all-stop, all-on}
 use Rattle.refusals.specs.Answers.{verdictOf}
 use Rattle.refusals.specs.declared.Verdict.{Verdict}
 use Rattle.refusals.specs.declared.Verdict.the-variants as verdict

@@ -2,7 +2,7 @@
 use Prim.Native.Nat.{ℕ}
 use mathlib.Core.Bool.{Bool}
 use lib.Dec.{eqb}
-use Rattle.labelling.specs.Limits.{filler}
+use Rattle.basics.specs.Limits.{filler}
 
 -- a number is the filling
 abbrev pub isFiller : ℕ → Bool

@@ -10,8 +10,8 @@ use refusals::Verdict;
 use refusals::refuse;
 ghost use mathlib.Core.Path.{_≡_};
 ghost use mathlib.Core.Bool.{_&&_, not};
-ghost use Rattle.labelling.specs.Basics.{all};
-ghost use Rattle.labelling.specs.Names as model;
+ghost use Rattle.basics.specs.Basics.{all};
+ghost use Rattle.naming.specs.Names as model;
 ghost use Rattle.refusals.specs.Answers.{verdictOf};
 ghost use Rattle.table_checks.specs.Rows.{isFiller};
 

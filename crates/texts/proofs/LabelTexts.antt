@@ -8,7 +8,7 @@ use lib.ListN.{length, getD, drop, length-drop, drop-of-length-le}
 use lib.Seq.{getD-take, getD-drop, length-take-le}
 use Rattle.labelling.specs.Labels.{labelOf}
 use Rattle.printouts.specs.Printing.{text, decimal, labelText}
-use Rattle.labelling.proofs.Scans.{from-cons}
+use Rattle.basics.proofs.Scans.{from-cons}
 use Rattle.words.specs.Writing.{written}
 use Rattle.texts.proofs.Texts.{Pending, pending-all, pending-from, pending-on, pending-none, pending-room, pending-more}
 use Rattle.texts.proofs.Joined.{tailed, joined-tailed, byte-room, text-room, text-put}

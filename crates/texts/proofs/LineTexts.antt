@@ -7,12 +7,12 @@ use native.Mathlib.Nat.{add-zero}
 use native.Mathlib.Omega.{arith}
 use lib.ListN.{length, getD, take, drop, length-drop}
 use lib.Seq.{getD-drop, drop-drop}
-use Rattle.labelling.specs.Limits.{maxDepth, labelSize}
+use Rattle.basics.specs.Limits.{maxDepth, labelSize}
 use Rattle.labelling.specs.Labels.{labelOf}
 use Rattle.patterns.specs.Matching.{labelsIn}
 use Rattle.printouts.specs.Printing.{text, labelText, matchLine}
 use Rattle.labelling.proofs.LabelWords.{labelOf-take}
-use Rattle.labelling.proofs.Scans.{tail-is}
+use Rattle.basics.proofs.Scans.{tail-is}
 use Rattle.words.specs.Writing.{written}
 use Rattle.texts.specs.Texts.{Depths}
 use Rattle.texts.proofs.Texts.{Pending, pending-all, pending-from, pending-on, pending-none, pending-room, pending-more}

@@ -8,11 +8,11 @@ use native.Mathlib.Numerals.{add-one}
 use native.Mathlib.Omega.{arith}
 use lib.ListN.{length, drop, length-drop}
 use lib.Seq.{drop-drop}
-use Rattle.labelling.specs.Basics.{joined, over}
-use Rattle.labelling.specs.Limits.{labelSize}
+use Rattle.basics.specs.Basics.{joined, over}
+use Rattle.basics.specs.Limits.{labelSize}
 use Rattle.patterns.specs.Matching.{labelsIn}
 use Rattle.printouts.specs.Printing.{matchLine, matchesText}
-use Rattle.labelling.proofs.Scans.{tail-is}
+use Rattle.basics.proofs.Scans.{tail-is}
 use Rattle.words.specs.Writing.{written}
 use Rattle.texts.specs.Texts.{numberLine, matchesIn, Depths, labelRoom, countRoom}
 use Rattle.words.proofs.Writing.{written-over}

@@ -5,8 +5,8 @@ use mathlib.Core.List.{List, _++_}
 use Prim.Native.Nat.{ℕ, _+_, _^_, _≤_, _<_}
 use native.Mathlib.Omega.{arith}
 use lib.ListN.{length, length-append}
-use Rattle.labelling.specs.Basics.{over}
-use Rattle.labelling.specs.Refusals.{Refusal}
+use Rattle.basics.specs.Basics.{over}
+use Rattle.basics.specs.Refusals.{Refusal}
 use Rattle.printouts.specs.Printing.{text, decimal, refusalText}
 use Rattle.words.specs.Writing.{written}
 use Rattle.texts.specs.Texts.{numberLine, refusalRoom}

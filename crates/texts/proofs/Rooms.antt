@@ -7,13 +7,13 @@ use native.Mathlib.Nat.{mul-zero, mul-suc}
 use native.Mathlib.Omega.{arith}
 use lib.ListN.{length, getD, take, drop, length-append, length-map, length-take}
 use lib.Seq.{getD-take, getD-drop}
-use Rattle.labelling.specs.Basics.{_∈_, joined}
-use Rattle.labelling.specs.Limits.{maxDepth, labelSize}
+use Rattle.basics.specs.Basics.{_∈_, joined}
+use Rattle.basics.specs.Limits.{maxDepth, labelSize}
 use Rattle.labelling.specs.Labels.{Label, labelOf}
 use Rattle.patterns.specs.Matches.{Match}
 use Rattle.patterns.specs.Matching.{labelsIn}
 use Rattle.printouts.specs.Printing.{text, decimal, joinedBy, labelText, matchLine, matchesText}
-use Rattle.labelling.proofs.Lists.{here, there, nowhere, for-cons, for-map, member-at}
+use Rattle.basics.proofs.Lists.{here, there, nowhere, for-cons, for-map, member-at}
 use Rattle.labelling.proofs.LabelWords.{labelOf-take}
 use Rattle.texts.specs.Texts.{numberLine, matchesIn, Depths, labelRoom, countRoom}
 use Rattle.patterns.proofs.Buffers.{length-labelsIn}

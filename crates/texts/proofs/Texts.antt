@@ -6,7 +6,7 @@ use Prim.Native.Nat.{ℕ, _+_, _≤_, _<_}
 use native.Mathlib.Nat.{add-zero}
 use native.Mathlib.Omega.{arith}
 use lib.ListN.{length, getD, drop, set, length-append, drop-of-length-le}
-use Rattle.labelling.proofs.Scans.{from-cons}
+use Rattle.basics.proofs.Scans.{from-cons}
 use Rattle.words.specs.Writing.{written}
 use Rattle.words.proofs.Writing.{length-written, written-after, written-none, written-one}
 

@@ -9,11 +9,11 @@ use native.Mathlib.Decide.{decLt}
 use native.Mathlib.Omega.{arith}
 use lib.ListN.{length, getD, drop, length-append}
 use lib.Seq.{getD-drop, drop-at}
-use Rattle.labelling.specs.Basics.{_∈_, joined}
-use Rattle.labelling.specs.Limits.{maxDepth, labelSize}
+use Rattle.basics.specs.Basics.{_∈_, joined}
+use Rattle.basics.specs.Limits.{maxDepth, labelSize}
 use Rattle.labelling.specs.Labels.{Label, labelWords}
 use Rattle.patterns.specs.Matches.{Match, labelsWords, matchWords}
-use Rattle.labelling.proofs.Lists.{here, there}
+use Rattle.basics.proofs.Lists.{here, there}
 use Rattle.labelling.proofs.LabelWords.{length-labelWords}
 use Rattle.patterns.proofs.MatchWords.{length-labelsWords, length-matchWords}
 use Rattle.storage.proofs.StreamWords.{labelsIn-labelsWords}

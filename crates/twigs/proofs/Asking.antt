@@ -3,7 +3,7 @@ use Prim.Native.Nat.{ℕ}
 use mathlib.Core.Path.{_≡_}
 use lib.Dec.{eqb}
 use borrow.Author.Tests.{eq-eqb, ne-eqb}
-use Rattle.labelling.specs.Limits.{anyName}
+use Rattle.basics.specs.Limits.{anyName}
 use Rattle.patterns.specs.Matches.{asks}
 
 -- 255 asks for any name

@@ -10,11 +10,11 @@ use native.Mathlib.Omega.{arith}
 use lib.ListN.{length, getD, drop, length-drop}
 use lib.Dec.{ltb, leb, eqb}
 use borrow.Author.Tests.{eq-eqb, ne-eqb, lt-ltb, le-leb, lt-leb, not-true, not-false}
-use Rattle.labelling.specs.Limits.{nodeSize, maxTwig, maxName, anyName, noParent}
-use Rattle.labelling.specs.Refusals.{Refusal, refuse, check, first, twigLength, twigParent, twigEdge, nameAsked, twigEnd}
-use Rattle.labelling.specs.Names.{isName}
+use Rattle.basics.specs.Limits.{nodeSize, maxTwig, maxName, anyName, noParent}
+use Rattle.basics.specs.Refusals.{Refusal, refuse, check, first, twigLength, twigParent, twigEdge, nameAsked, twigEnd}
+use Rattle.naming.specs.Names.{isName}
 use Rattle.patterns.specs.Twigs.{childEdge, descendantEdge, nodeAt, readTwig, parentFits, nameCheck, nodeCheck, nodesCheck, twigCheck}
-use Rattle.labelling.proofs.Refusals.{first-here, first-next}
+use Rattle.basics.proofs.Refusals.{first-here, first-next}
 use Rattle.patterns.proofs.TwigBytes.{length-readTwig}
 use Rattle.refusals.specs.Answers.{verdictOf}
 use Rattle.refusals.specs.declared.Refusal as declared

@@ -6,7 +6,7 @@ use mathlib.Core.Option.{none}
 use native.Mathlib.Nat.{add-zero}
 use native.Mathlib.Omega.{arith}
 use lib.ListN.{length, getD}
-use Rattle.labelling.specs.Limits.{nodeSize}
+use Rattle.basics.specs.Limits.{nodeSize}
 use Rattle.patterns.specs.Twigs.{nodeAt, readTwig, twigCheck}
 use Rattle.patterns.proofs.TwigBytes.{length-readTwig, readTwig-at, accepted-twig}
 use Rattle.twigs.specs.Answers.{nodeOf}

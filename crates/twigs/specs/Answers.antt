@@ -3,8 +3,8 @@ use mathlib.Core.List.{List}
 use mathlib.Core.Option.{Option}
 use Prim.Native.Nat.{ℕ, _+_, _*_}
 use lib.ListN.{getD}
-use Rattle.labelling.specs.Limits.{nodeSize}
-use Rattle.labelling.specs.Refusals.{Refusal}
+use Rattle.basics.specs.Limits.{nodeSize}
+use Rattle.basics.specs.Refusals.{Refusal}
 use Rattle.patterns.specs.Twigs as model
 use Rattle.twigs.specs.declared.Node.{Node}
 

@@ -7,8 +7,8 @@ use native.Mathlib.Numerals.{add-one}
 use native.Mathlib.Omega.{arith}
 use lib.ListN.{length, getD, take, drop, set, replicate, length-drop, drop-of-length-le, length-replicate}
 use lib.Seq.{paste, paste-suc, length-take-le, getD-take, getD-drop}
-use Rattle.labelling.specs.Basics.{over}
-use Rattle.labelling.specs.Limits.{labelSize}
+use Rattle.basics.specs.Basics.{over}
+use Rattle.basics.specs.Limits.{labelSize}
 use Rattle.words.specs.Writing.{written}
 use Rattle.words.proofs.Words.{over-middle}
 use Rattle.words.proofs.Writing.{written-over, written-paste}

@@ -7,8 +7,8 @@ use native.Mathlib.Nat.{zero-add}
 use native.Mathlib.Numerals.{add-one}
 use lib.ListN.{length, getD, take, drop, set, length-drop}
 use lib.Seq.{paste-suc, take-length, drop-length, drop-drop}
-use Rattle.labelling.specs.Basics.{over}
-use Rattle.labelling.proofs.Scans.{tail-is}
+use Rattle.basics.specs.Basics.{over}
+use Rattle.basics.proofs.Scans.{tail-is}
 
 module _ (d s : List ℕ) {e : List ℕ} {i : ℕ} (p : e ≡ take i s ++ drop i d) where
   -- one more word written

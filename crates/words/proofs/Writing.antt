@@ -7,7 +7,7 @@ use native.Mathlib.Omega.{arith}
 use native.Mathlib.Numerals.{add-one}
 use lib.ListN.{length, getD, take, drop, set, length-append, length-drop, take-append-drop, List·getD-append}
 use lib.Seq.{set-split, take-at, drop-at, drop-drop, take-take, take-append-le, take-length, length-take-le, getD-take, getD-drop, paste}
-use Rattle.labelling.specs.Basics.{over}
+use Rattle.basics.specs.Basics.{over}
 use Rattle.words.specs.Writing.{written}
 
 -- numbers written from the start of a list

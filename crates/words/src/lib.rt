@@ -2,7 +2,7 @@
 ghost use mathlib.Core.Path.{_≡_};
 ghost use Prim.Native.Nat.{_+_, _≤_};
 ghost use lib.ListN.{length, take, drop};
-ghost use Rattle.labelling.specs.Basics.{over};
+ghost use Rattle.basics.specs.Basics.{over};
 ghost use Rattle.words.specs.Writing.{written};
 
 // The words of a label.

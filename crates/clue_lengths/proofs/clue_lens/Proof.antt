@@ -3,7 +3,7 @@ use Prim.Native.Nat.{_≤_, _-_}
 use mathlib.Core.Path.{_≡_}
 use borrow.Author.Needs.{needs}
 use lib.ListN.{length}
-use Rattle.labelling.specs.Limits.{tableSize}
+use Rattle.basics.specs.Limits.{tableSize}
 use Rattle.clue_lengths.proofs.Lens.{Written, lens-start, lens-on, lens-end}
 use Rattle.clue_lengths.proofs.clue_lens.Statement.{statement}
 use Rattle.clue_lengths.proofs.clue_lens.Tie as tie

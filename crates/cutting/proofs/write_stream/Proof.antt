@@ -4,7 +4,7 @@ use mathlib.Core.Logic.{⊎-elim}
 use mathlib.Core.Path.{_≡_}
 use borrow.Author.Needs.{needs}
 use lib.ListN.{length}
-use Rattle.labelling.specs.Basics.{over}
+use Rattle.basics.specs.Basics.{over}
 use Rattle.patterns.specs.Matches.{labelsWords}
 use Rattle.storage.specs.Store.{elements}
 use Rattle.storage.specs.Cutting.{stream}

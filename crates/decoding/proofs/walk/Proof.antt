@@ -2,7 +2,7 @@
 use borrow.Author.Needs.{needs}
 use Prim.Native.Nat.{_≤_, _-_}
 use lib.ListN.{length}
-use Rattle.labelling.specs.Names.{cluesOf}
+use Rattle.naming.specs.Names.{cluesOf}
 use Rattle.decoding.proofs.Steps.{Walked, walk-from, walk-end, walk-stuck, walk-on}
 use Rattle.decoding.proofs.walk.Statement.{statement}
 use Rattle.decoding.proofs.walk.Tie as tie

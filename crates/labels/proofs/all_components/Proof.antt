@@ -3,9 +3,9 @@ use borrow.Author.Needs.{needs}
 use Prim.Native.Nat.{_≤_, _-_}
 use mathlib.Core.Path.{_≡_}
 use lib.ListN.{length, drop}
-use Rattle.labelling.specs.Basics.{all}
+use Rattle.basics.specs.Basics.{all}
 use Rattle.labelling.specs.Labels.{isComponent}
-use Rattle.labelling.proofs.Scans.{all-end, all-stop, all-on}
+use Rattle.basics.proofs.Scans.{all-end, all-stop, all-on}
 use Rattle.labels.proofs.Steps.{large-word, small-word}
 use Rattle.labels.proofs.all_components.Statement.{statement}
 use Rattle.labels.proofs.all_components.Tie as tie

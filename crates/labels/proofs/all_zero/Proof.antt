@@ -5,9 +5,9 @@ use mathlib.Core.Path.{_≡_}
 use mathlib.Core.Bool.{_&&_}
 use lib.Dec.{eqb}
 use lib.ListN.{length, drop}
-use Rattle.labelling.specs.Basics.{all}
+use Rattle.basics.specs.Basics.{all}
 use Rattle.labels.specs.Words.{isZero}
-use Rattle.labelling.proofs.Scans.{zeros-on, zeros-end}
+use Rattle.basics.proofs.Scans.{zeros-on, zeros-end}
 use Rattle.labels.proofs.all_zero.Statement.{statement}
 use Rattle.labels.proofs.all_zero.Tie as tie
 

@@ -4,7 +4,7 @@ use mathlib.Core.Path.{_≡_}
 use borrow.Author.Needs.{needs}
 use mir.Facts.{fits-widen}
 use lib.Dec.{eqb}
-use Rattle.labelling.specs.Limits.{labelSize}
+use Rattle.basics.specs.Limits.{labelSize}
 use Rattle.layouts.specs.Words.{wordFits, wordsFit}
 use Rattle.layouts.proofs.Fits.{depth-within, all-start, all-on, all-misfit, all-deep}
 use Rattle.layouts.proofs.laid_out.Statement.{statement}

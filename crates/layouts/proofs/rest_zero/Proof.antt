@@ -3,7 +3,7 @@ use Prim.Native.Nat.{_-_, _≤_}
 use mathlib.Core.Path.{_≡_}
 use borrow.Author.Needs.{needs}
 use lib.Dec.{eqb}
-use Rattle.labelling.specs.Limits.{labelSize}
+use Rattle.basics.specs.Limits.{labelSize}
 use Rattle.layouts.specs.Words.{restFits, wordsFit}
 use Rattle.layouts.proofs.Words.{words-start, words-on, words-end}
 use Rattle.layouts.proofs.rest_zero.Statement.{statement}

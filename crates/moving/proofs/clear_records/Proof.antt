@@ -4,7 +4,7 @@ use mathlib.Core.Path.{_≡_}
 use borrow.Author.Needs.{needs}
 use lib.ListN.{length, replicate}
 use lib.Seq.{paste, paste-zero}
-use Rattle.labelling.specs.Limits.{recordSize}
+use Rattle.basics.specs.Limits.{recordSize}
 use Rattle.moving.proofs.Moves.{clear-more, clear-is}
 use Rattle.moving.proofs.clear_records.Statement.{statement}
 use Rattle.moving.proofs.clear_records.Tie as tie

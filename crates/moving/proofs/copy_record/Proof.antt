@@ -4,7 +4,7 @@ use mathlib.Core.Path.{_≡_}
 use borrow.Author.Needs.{needs}
 use lib.ListN.{length, drop}
 use lib.Seq.{paste, paste-zero}
-use Rattle.labelling.specs.Limits.{recordSize}
+use Rattle.basics.specs.Limits.{recordSize}
 use Rattle.moving.proofs.Moves.{copy-more, put-is}
 use Rattle.moving.proofs.copy_record.Statement.{statement}
 use Rattle.moving.proofs.copy_record.Tie as tie

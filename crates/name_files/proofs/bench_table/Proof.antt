@@ -1,6 +1,6 @@
 -- `name_files::bench_table` meets its contract: the bench's own pairs give its table.
 use borrow.Author.Needs.{needs}
-use Rattle.labelling.specs.Examples.{benchFile, benchTable}
+use Rattle.naming.specs.Examples.{benchFile, benchTable}
 use Rattle.name_files.proofs.bench_table.Statement.{statement}
 use Rattle.name_files.proofs.bench_table.Tie as tie
 

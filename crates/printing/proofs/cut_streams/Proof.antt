@@ -6,7 +6,7 @@ use mathlib.Core.Path.{_≡_}
 use native.Mathlib.Omega.{arith}
 use borrow.Author.Needs.{needs, fits-under}
 use lib.ListN.{length}
-use Rattle.labelling.specs.Limits.{maxElements}
+use Rattle.basics.specs.Limits.{maxElements}
 use Rattle.patterns.specs.Twigs.{readTwig}
 use Rattle.twigs.proofs.Nodes.{node-bytes}
 use Rattle.printing.proofs.Leaves.{leavesTo}

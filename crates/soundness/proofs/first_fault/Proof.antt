@@ -4,8 +4,8 @@ use mir.Facts.{fits-widen}
 use Prim.Native.Nat.{_+_, _-_, _≤_}
 use mathlib.Core.Path.{_≡_, _∙_}
 use mathlib.Core.Bool.{true}
-use Rattle.labelling.specs.Limits.{maxDepth}
-use Rattle.labelling.specs.Names.{cluesOf}
+use Rattle.basics.specs.Limits.{maxDepth}
+use Rattle.naming.specs.Names.{cluesOf}
 use Rattle.record_rules.specs.Rules.{depthFits}
 use Rattle.soundness.specs.declared.Soundness.the-variants as soundness
 use Rattle.soundness.proofs.Fits.{Fitting, found-fits, found-depth, fit-on, fit-over, fit-rest, fit-laid}

@@ -3,8 +3,8 @@ use Prim.Native.Nat.{_≤_, _-_}
 use mathlib.Core.Path.{_≡_}
 use borrow.Author.Needs.{needs, fits-under}
 use lib.ListN.{length}
-use Rattle.labelling.specs.Limits.{labelSize}
-use Rattle.labelling.specs.Names.{cluesOf}
+use Rattle.basics.specs.Limits.{labelSize}
+use Rattle.naming.specs.Names.{cluesOf}
 use Rattle.streams.proofs.Reading.{Reading, refused-not, read-start, read-ready, read-end, read-out, read-few, read-on}
 use Rattle.streams.proofs.Rows.{pasted-long}
 use Rattle.streams.proofs.check_stream.Statement.{statement}

@@ -5,8 +5,8 @@ use borrow.Author.Needs.{needs}
 use mir.Facts.{fits-widen}
 use lib.ListN.{length, getD, take}
 use lib.Dec.{T}
-use Rattle.labelling.specs.Limits.{labelSize}
-use Rattle.labelling.specs.Names.{cluesOf}
+use Rattle.basics.specs.Limits.{labelSize}
+use Rattle.naming.specs.Names.{cluesOf}
 use Rattle.clue_lengths.proofs.Lens.{len-is}
 use Rattle.streams.specs.Streams.{Along}
 use Rattle.streams.proofs.Leading.{lead-along, lead-end, lead-stuck, lead-next}

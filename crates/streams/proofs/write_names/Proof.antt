@@ -4,7 +4,7 @@ use mathlib.Core.Path.{_≡_}
 use borrow.Author.Needs.{needs}
 use lib.ListN.{length}
 use lib.Seq.{paste, paste-zero}
-use Rattle.labelling.specs.Limits.{labelSize}
+use Rattle.basics.specs.Limits.{labelSize}
 use Rattle.streams.proofs.Rows.{name-more, names-all}
 use Rattle.streams.proofs.write_names.Statement.{statement}
 use Rattle.streams.proofs.write_names.Tie as tie

@@ -4,7 +4,7 @@ use Prim.Native.Nat.{_≤_, _-_}
 use mathlib.Core.Path.{_≡_}
 use borrow.Author.Needs.{needs}
 use lib.ListN.{length}
-use Rattle.labelling.specs.Limits.{tableSize, filler}
+use Rattle.basics.specs.Limits.{tableSize, filler}
 use Rattle.table_bytes.proofs.Rows.{Copied, row-more, row-all}
 use Rattle.table_bytes.proofs.row_of.Statement.{statement}
 use Rattle.table_bytes.proofs.row_of.Tie as tie

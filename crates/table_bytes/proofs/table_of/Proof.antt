@@ -4,7 +4,7 @@ use Prim.Native.Nat.{_≤_, _-_}
 use mathlib.Core.Path.{_≡_}
 use borrow.Author.Needs.{needs}
 use lib.ListN.{length, replicate}
-use Rattle.labelling.specs.Limits.{tableSize, filler}
+use Rattle.basics.specs.Limits.{tableSize, filler}
 use Rattle.table_bytes.specs.Rows.{rowsIn}
 use Rattle.table_bytes.proofs.Rows.{Copied, row-long, rows-more, rows-all}
 use Rattle.table_bytes.proofs.table_of.Statement.{statement}

@@ -3,7 +3,7 @@ use Prim.Native.Nat.{_≤_, _-_}
 use mathlib.Core.Logic.{⊎-elim}
 use borrow.Author.Needs.{needs}
 use lib.ListN.{length}
-use Rattle.labelling.specs.Limits.{filler}
+use Rattle.basics.specs.Limits.{filler}
 use Rattle.table_checks.proofs.Marks.{Least, least-end, least-less, least-same}
 use Rattle.table_checks.proofs.all_filler.Statement.{statement}
 use Rattle.table_checks.proofs.all_filler.Tie as tie

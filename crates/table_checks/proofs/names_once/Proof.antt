@@ -3,7 +3,7 @@ use Prim.Native.Nat.{_≤_, _-_}
 use mathlib.Core.Path.{_≡_}
 use borrow.Author.Needs.{needs}
 use lib.ListN.{length}
-use Rattle.labelling.specs.Limits.{tableSize}
+use Rattle.basics.specs.Limits.{tableSize}
 use Rattle.table_checks.proofs.Marks.{Marked, mark-from, mark-end, mark-high, mark-again, mark-on}
 use Rattle.table_checks.proofs.names_once.Statement.{statement}
 use Rattle.table_checks.proofs.names_once.Tie as tie

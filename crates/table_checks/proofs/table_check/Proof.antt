@@ -3,8 +3,8 @@ use Prim.Native.Nat.{_≤_, _-_}
 use mathlib.Core.Path.{_≡_}
 use borrow.Author.Needs.{needs}
 use lib.ListN.{length, drop}
-use Rattle.labelling.specs.Basics.{all}
-use Rattle.labelling.specs.Names.{goodRow}
+use Rattle.basics.specs.Basics.{all}
+use Rattle.naming.specs.Names.{goodRow}
 use Rattle.table_checks.proofs.Marks.{table-end, table-bad, table-on}
 use Rattle.table_checks.proofs.table_check.Statement.{statement}
 use Rattle.table_checks.proofs.table_check.Tie as tie

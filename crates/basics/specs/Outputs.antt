@@ -4,8 +4,8 @@ use mathlib.Core.Option.{Option, none, some}
 use Prim.Native.Nat.{ℕ}
 use lib.ListN.{length}
 use lib.Dec.{leb}
-use Rattle.labelling.specs.Basics.{over}
-use Rattle.labelling.specs.Refusals.{Refusal, check, shortOutput}
+use Rattle.basics.specs.Basics.{over}
+use Rattle.basics.specs.Refusals.{Refusal, check, shortOutput}
 
 -- what a call that fills an output answers and leaves: the refusal, a count, the output
 pub record Listing : Type 0 where

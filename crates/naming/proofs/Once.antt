@@ -1,6 +1,6 @@
 -- Lists of numbers in which none stands twice.
 use mathlib.Core.Path.{_≡_, refl, sym, _∙_}
-use mathlib.Core.Logic.{_↔_, Iff·rfl, Iff·symm, Iff·trans, Iff·and, inl, inr, ⊎-elim, ⊎-map}
+use mathlib.Core.Logic.{_↔_, Iff·rfl, Iff·symm, Iff·trans, Iff·and, inl, inr, ⊎-elim}
 use mathlib.Core.Bool.{Bool, true, false, cond, _||_, not}
 use mathlib.Core.List.{List, [], _∷_, Memᴰ·cast}
 use Prim.Native.Nat.{ℕ, zero, suc, _≤_, _<_}
@@ -8,19 +8,10 @@ use native.Mathlib.Nat.{not-suc-le-zero, le-of-suc-le-suc}
 use native.Mathlib.Omega.{arith}
 use lib.ListN.{length, getD}
 use lib.Dec.{T, eqb, T-not, not-T}
-use Rattle.labelling.specs.Basics.{_∈_, keep, stands}
-use Rattle.labelling.specs.Names.{twice}
-use Rattle.labelling.proofs.Tests.{or-iff, eqb-alike, Tells, passes, fails, eq?}
-use Rattle.labelling.proofs.Lists.{here, there, here-or-there, nowhere, keep-iff, keep-all, member-at}
-
--- the test of being a member tells it
-pub stands-iff : (n : ℕ) (l : List ℕ) → T (stands n l) ↔ n ∈ l
-unfolding stands
-stands-iff n [] = (absurd, nowhere)
-stands-iff n (x ∷ xs) = (
-  λ h. ⊎-elim (λ e. here (sym (eqb-alike x n .0 e))) (λ k. there (stands-iff n xs .0 k)) (or-iff (eqb x n) _ .0 h),
-  λ h. or-iff (eqb x n) _ .1 (⊎-map (λ e. eqb-alike x n .1 (sym e)) (stands-iff n xs .1) (here-or-there h)),
-)
+use Rattle.basics.specs.Basics.{_∈_, keep, stands}
+use Rattle.naming.specs.Names.{twice}
+use Rattle.basics.proofs.Tests.{or-iff, eqb-alike, Tells, passes, fails, eq?}
+use Rattle.basics.proofs.Lists.{here, keep-iff, keep-all, member-at, stands-iff}
 
 -- no number stands twice exactly if the first does not stand again and none of the rest stands twice
 pub once-cons : (x : ℕ) (xs : List ℕ) → T (not (twice (x ∷ xs))) ↔ ((x ∈ xs → ⊥) × T (not (twice xs)))

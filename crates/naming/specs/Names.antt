@@ -5,9 +5,9 @@ use mathlib.Core.Option.{Option, none, some, Option·map}
 use Prim.Native.Nat.{ℕ, suc, _-_, _%_}
 use lib.ListN.{length, getD, drop, replicate}
 use lib.Dec.{leb, eqb}
-use Rattle.labelling.specs.Basics.{elim?, all, keep, upTo, stands}
-use Rattle.labelling.specs.Limits.{maxName, tableSize, filler, maxFile}
-use Rattle.labelling.specs.Refusals.{Refusal, check, first, fileLength, nameTooHigh, pairAgain, badTable, badRoot}
+use Rattle.basics.specs.Basics.{elim?, all, keep, upTo, stands}
+use Rattle.basics.specs.Limits.{maxName, tableSize, filler, maxFile}
+use Rattle.basics.specs.Refusals.{Refusal, check, first, fileLength, nameTooHigh, pairAgain, badTable, badRoot}
 
 -- the clue of each name: its child names, in file order
 abbrev pub Clues : Type 0

@@ -11,9 +11,9 @@ use native.Mathlib.Omega.{arith}
 use lib.ListN.{length, getD, length-append, length-map, List·getD-append}
 use lib.Seq.{getD-at}
 use lib.Dec.{T, ltb, lt→ltb}
-use Rattle.labelling.specs.Basics.{_∈_, all, upTo, Ascending, none-left, one-more}
-use Rattle.labelling.proofs.Tests.{and-iff}
-use Rattle.labelling.proofs.Lists.{here, nowhere, only-one, either-part, append-ascending, all-snoc}
+use Rattle.basics.specs.Basics.{_∈_, all, upTo, Ascending, none-left, one-more}
+use Rattle.basics.proofs.Tests.{and-iff}
+use Rattle.basics.proofs.Lists.{here, nowhere, only-one, either-part, append-ascending, all-snoc}
 
 -- there are n numbers below n
 pub length-upTo : (n : ℕ) → length (upTo n) ≡ n

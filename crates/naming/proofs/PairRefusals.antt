@@ -10,15 +10,15 @@ use native.Mathlib.Nat.{zero-add}
 use native.Mathlib.Omega.{arith}
 use lib.ListN.{length, getD, take}
 use lib.Dec.{T}
-use Rattle.labelling.specs.Basics.{_∈_, stands}
-use Rattle.labelling.specs.Limits.{maxName, maxFile}
-use Rattle.labelling.specs.Refusals.{Refusal, refuse, check, first, fileLength, nameTooHigh, pairAgain}
-use Rattle.labelling.specs.Names.{Pair, pairs, children, pairCheck, pairsCheck, fileCheck}
-use Rattle.labelling.proofs.Tests.{decide}
-use Rattle.labelling.proofs.Lists.{here, there, here-or-there, nowhere}
-use Rattle.labelling.proofs.Refusals.{check-none, check-passed, check-refuses, refuse-number, first-last, first-both, first-here, first-next, first-some, first-place, last-place, Never, never-none, never-check, never-first, never-nil}
-use Rattle.labelling.proofs.Once.{Differ}
-use Rattle.labelling.proofs.NamePairs.{noPair, goodPairs-iff, pair-named, pair-stood, pair-new, pairsCheck-iff, length-iff}
+use Rattle.basics.specs.Basics.{_∈_, stands}
+use Rattle.basics.specs.Limits.{maxName, maxFile}
+use Rattle.basics.specs.Refusals.{Refusal, refuse, check, first, fileLength, nameTooHigh, pairAgain}
+use Rattle.naming.specs.Names.{Pair, pairs, children, pairCheck, pairsCheck, fileCheck}
+use Rattle.basics.proofs.Tests.{decide}
+use Rattle.basics.proofs.Lists.{here, there, here-or-there, nowhere}
+use Rattle.basics.proofs.Refusals.{check-none, check-passed, check-refuses, refuse-number, first-last, first-both, first-here, first-next, first-some, first-place, last-place, Never, never-none, never-check, never-first, never-nil}
+use Rattle.naming.proofs.Once.{Differ}
+use Rattle.naming.proofs.NamePairs.{noPair, goodPairs-iff, pair-named, pair-stood, pair-new, pairsCheck-iff, length-iff}
 
 -- of two checks the first gives its number exactly if its fact does not hold, the second if the first's holds and its own does not
 two-checks : {P Q : Type 0} (a b : Bool) (m n i : ℕ) → (m ≡ n → ⊥) → T a ↔ P → T b ↔ Q →

@@ -11,14 +11,14 @@ use native.Mathlib.Omega.{arith}
 use lib.ListN.{length, getD, drop, length-drop, List·getD-eq-default}
 use lib.Seq.{getD-drop}
 use lib.Dec.{T, eqb, eqb-refl, leb→le, le→leb}
-use Rattle.labelling.specs.Basics.{_∈_, all}
-use Rattle.labelling.specs.Limits.{maxName, filler}
-use Rattle.labelling.specs.Refusals.{badTable}
-use Rattle.labelling.specs.Names.{placeIn, led, isName, namesOf, cluesOf, twice, goodRow, tableCheck}
-use Rattle.labelling.proofs.Tests.{and-iff, is-true, is-false, eqb-alike, Tells, passes, fails, eq?}
-use Rattle.labelling.proofs.Lists.{here, there, here-or-there, nowhere, all-at, member-at}
-use Rattle.labelling.proofs.Refusals.{check-none, check-passed}
-use Rattle.labelling.proofs.Once.{once-cons, twice-iff}
+use Rattle.basics.specs.Basics.{_∈_, all}
+use Rattle.basics.specs.Limits.{maxName, filler}
+use Rattle.basics.specs.Refusals.{badTable, badRoot}
+use Rattle.naming.specs.Names.{placeIn, led, isName, namesOf, cluesOf, twice, goodRow, tableCheck, rootCheck}
+use Rattle.basics.proofs.Tests.{and-iff, is-true, is-false, eqb-alike, Tells, passes, fails, eq?}
+use Rattle.basics.proofs.Lists.{here, there, here-or-there, nowhere, all-at, member-at}
+use Rattle.basics.proofs.Refusals.{check-none, check-passed, check-iff}
+use Rattle.naming.proofs.Once.{once-cons, twice-iff}
 
 -- numbers that begin a row, up to its first 255
 record Begin (row names : List ℕ) : Type 0 where
@@ -192,3 +192,8 @@ pub led-none : (clue : List ℕ) (x : ℕ) → led clue x ≡ none ↔ (clue ≡
 unfolding led
 led-none [] x = (λ e. refl, λ e. refl)
 led-none (c ∷ cs) x = (λ e. absurd (Option·some-ne-none _ e), λ e. absurd (cons-ne-nil c cs e))
+
+-- a root name is accepted exactly if it is at most 63
+pub rootCheck-iff : (root : ℕ) → rootCheck root ≡ none ↔ (root ≤ maxName)
+unfolding rootCheck isName
+rootCheck-iff root = check-iff (isName root) badRoot 0 (leb→le root maxName, le→leb root maxName)

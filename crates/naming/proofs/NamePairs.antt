@@ -8,14 +8,14 @@ use Prim.Native.Nat.{ℕ, suc, _%_, _≤_}
 use native.Mathlib.Omega.{arith}
 use lib.ListN.{length}
 use lib.Dec.{T, leb, eqb, eqb-refl, T-not, not-T, leb→le, le→leb}
-use Rattle.labelling.specs.Basics.{_∈_, keep, stands}
-use Rattle.labelling.specs.Limits.{maxName, maxFile}
-use Rattle.labelling.specs.Refusals.{fileLength, nameTooHigh, pairAgain}
-use Rattle.labelling.specs.Names.{isName, twice, Pair, pairs, children, pairCheck, pairsCheck, fileCheck}
-use Rattle.labelling.proofs.Tests.{and-facts, is-true, eqb-alike, Tells, passes, fails, eq?}
-use Rattle.labelling.proofs.Lists.{here, there, here-or-there, nowhere, for-cons, for-map, keep-iff}
-use Rattle.labelling.proofs.Refusals.{check-iff, first-iff, last-iff, first-both}
-use Rattle.labelling.proofs.Once.{once-cons, stands-iff, Differ, differ-cons}
+use Rattle.basics.specs.Basics.{_∈_, keep, stands}
+use Rattle.basics.specs.Limits.{maxName, maxFile}
+use Rattle.basics.specs.Refusals.{fileLength, nameTooHigh, pairAgain}
+use Rattle.naming.specs.Names.{isName, twice, Pair, pairs, children, pairCheck, pairsCheck, fileCheck}
+use Rattle.basics.proofs.Tests.{and-facts, is-true, eqb-alike, Tells, passes, fails, eq?}
+use Rattle.basics.proofs.Lists.{here, there, here-or-there, nowhere, for-cons, for-map, keep-iff, stands-iff}
+use Rattle.basics.proofs.Refusals.{check-iff, first-iff, last-iff, first-both}
+use Rattle.naming.proofs.Once.{once-cons, Differ, differ-cons}
 
 -- a number is a child of a name exactly if the pair of the two stands in the file
 pub children-iff : (qs : List Pair) (p c : ℕ) → c ∈ children qs p ↔ record { parent = p; child = c } ∈ qs

@@ -3,14 +3,15 @@ use mathlib.Core.Path.{_≡_, refl, sym, subst, _∙_}
 use mathlib.Core.Logic.{_↔_, _⊎_, inl, inr, ⊎-elim, ⊎-map}
 use mathlib.Core.Bool.{Bool, true, false, cond, _&&_, and-true, and-assoc}
 use mathlib.Core.List.{List, [], _∷_, _++_, map, Memᴰ·map, Memᴰ·of-map}
-use Prim.Native.Nat.{ℕ, zero, suc, _*_, _<_, _≤_}
+use Prim.Native.Nat.{ℕ, zero, suc, _*_, _<_, _≤_, _-_}
 use native.Mathlib.Nat.{not-suc-le-zero, le-of-suc-le-suc, mul-zero, mul-suc}
 use native.Mathlib.Omega.{arith}
 use lib.ListN.{length, getD, length-append}
-use lib.Dec.{T}
-use Rattle.labelling.specs.Basics.{_∈_, all, keep, joined, Ascending, none-left, one-more}
-use Rattle.labelling.proofs.Tests.{and-iff, is-true}
-use Rattle.labelling.proofs.Orders.{OneWay}
+use lib.Seq.{getD-at}
+use lib.Dec.{T, eqb}
+use Rattle.basics.specs.Basics.{_∈_, all, keep, joined, Ascending, none-left, one-more, stands, last}
+use Rattle.basics.proofs.Tests.{and-iff, is-true, or-iff, eqb-alike}
+use Rattle.basics.proofs.Orders.{OneWay}
 pub use mathlib.Core.List.{List·Memᴰ·head as here, List·Memᴰ·tail as there, List·Memᴰ·cases-cons as here-or-there, List·Memᴰ·not-nil as nowhere, List·Memᴰ·eq-of-singleton as only-one, List·Memᴰ·append-cases as either-part}
 
 -- what holds of the first and of the rest holds of every member
@@ -176,3 +177,17 @@ keep-keep f g (a ∷ l) = go (f a) (keep-keep f g l)
         keep g (cond b (a ∷ keep f l) (keep f l)) ≡ cond (b && g a) (a ∷ keep (λ a. f a && g a) l) (keep (λ a. f a && g a) l)
     go true e = rw e
     go false e = e
+
+-- the test of being a member tells it
+pub stands-iff : (n : ℕ) (l : List ℕ) → T (stands n l) ↔ n ∈ l
+unfolding stands
+stands-iff n [] = (absurd, nowhere)
+stands-iff n (x ∷ xs) = (
+  λ h. ⊎-elim (λ e. here (sym (eqb-alike x n .0 e))) (λ k. there (stands-iff n xs .0 k)) (or-iff (eqb x n) _ .0 h),
+  λ h. or-iff (eqb x n) _ .1 (⊎-map (λ e. eqb-alike x n .1 (sym e)) (stands-iff n xs .1) (here-or-there h)),
+)
+
+-- the last of a list is what was added at its end
+pub last-snoc : (l : List ℕ) (k : ℕ) → last (l ++ (k ∷ [])) ≡ k
+unfolding last
+last-snoc l k = getD-at l k [] 0 (length (l ++ (k ∷ [])) - 1) (omega (arith, length-append l (k ∷ [])))

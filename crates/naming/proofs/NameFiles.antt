@@ -10,16 +10,16 @@ use native.Mathlib.Omega.{arith}
 use lib.ListN.{length, getD, replicate, length-append, length-map, length-replicate, getD-replicate, List·getD-append, List·getD-eq-default}
 use lib.Seq.{getD-append-add}
 use lib.Dec.{T, eqb}
-use Rattle.labelling.specs.Basics.{_∈_, elim?, keep, upTo}
-use Rattle.labelling.specs.Limits.{maxName, tableSize, filler}
-use Rattle.labelling.specs.Refusals.{Refusal}
-use Rattle.labelling.specs.Names.{namesOf, cluesOf, twice, goodRow, tableCheck, Pair, pairs, children, fileCheck, rowOf, tableOf, emptyTable, readNames}
-use Rattle.labelling.proofs.Tests.{Tells, passes, fails, eq?}
-use Rattle.labelling.proofs.Lists.{here, there, member-at}
-use Rattle.labelling.proofs.Ranges.{length-upTo, map-upTo}
-use Rattle.labelling.proofs.Once.{pigeonhole}
-use Rattle.labelling.proofs.NameTables.{row-tests, goodRow-iff, tableCheck-iff}
-use Rattle.labelling.proofs.NamePairs.{GoodPairs, pairs-good, children-iff, fileCheck-iff, no-pairs}
+use Rattle.basics.specs.Basics.{_∈_, elim?, keep, upTo}
+use Rattle.basics.specs.Limits.{maxName, tableSize, filler}
+use Rattle.basics.specs.Refusals.{Refusal}
+use Rattle.naming.specs.Names.{namesOf, cluesOf, twice, goodRow, tableCheck, Pair, pairs, children, fileCheck, rowOf, tableOf, emptyTable, readNames}
+use Rattle.basics.proofs.Tests.{Tells, passes, fails, eq?}
+use Rattle.basics.proofs.Lists.{here, there, member-at}
+use Rattle.basics.proofs.Ranges.{length-upTo, map-upTo}
+use Rattle.naming.proofs.Once.{pigeonhole}
+use Rattle.naming.proofs.NameTables.{row-tests, goodRow-iff, tableCheck-iff}
+use Rattle.naming.proofs.NamePairs.{GoodPairs, pairs-good, children-iff, fileCheck-iff, no-pairs}
 
 -- a clue that can stand in a row: names of which none stands twice
 pub record GoodClue (clue : List ℕ) : Type 0 where

@@ -8,10 +8,10 @@ use native.Mathlib.Omega.{arith}
 use lib.ListN.{length, take, drop, length-append, length-drop}
 use lib.Seq.{take-at, drop-at}
 use lib.Dec.{leb, leb→le, le→leb}
-use Rattle.labelling.specs.Basics.{over}
-use Rattle.labelling.specs.Refusals.{Refusal, shortOutput}
-use Rattle.labelling.specs.Outputs.{Listing, listed, roomCheck}
-use Rattle.labelling.proofs.Refusals.{check-iff}
+use Rattle.basics.specs.Basics.{over}
+use Rattle.basics.specs.Refusals.{Refusal, shortOutput}
+use Rattle.basics.specs.Outputs.{Listing, listed, roomCheck}
+use Rattle.basics.proofs.Refusals.{check-iff}
 
 -- what is written is written from the start
 pub take-over : (ws out : List ℕ) → take (length ws) (over ws out) ≡ ws

@@ -6,9 +6,9 @@ use mathlib.Core.List.{List, [], _∷_, _++_}
 use mathlib.Core.Option.{Option, none, some, Option·none-ne-some, Option·some-ne-none, Option·some-injective}
 use Prim.Native.Nat.{ℕ}
 use lib.Dec.{T}
-use Rattle.labelling.specs.Basics.{_∈_, elim?}
-use Rattle.labelling.specs.Refusals.{Refusal, refuse, check, first}
-use Rattle.labelling.proofs.Lists.{here, there, nowhere, for-cons}
+use Rattle.basics.specs.Basics.{_∈_, elim?}
+use Rattle.basics.specs.Refusals.{Refusal, refuse, check, first}
+use Rattle.basics.proofs.Lists.{here, there, nowhere, for-cons}
 
 -- the checks of table and records that pass can be left out
 pub first-skip : (o : Option Refusal) (cs : List (Option Refusal)) → first (none ∷ o ∷ none ∷ cs) ≡ first (o ∷ cs)

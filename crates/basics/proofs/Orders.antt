@@ -7,8 +7,8 @@ use Prim.Native.Nat.{ℕ, _<_}
 use native.Mathlib.Decide.{decLt}
 use native.Mathlib.Omega.{arith}
 use lib.Dec.{T, ltb, ltb→lt, lt→ltb}
-use Rattle.labelling.specs.Basics.{lex}
-use Rattle.labelling.proofs.Tests.{or-iff, and-iff, Alike}
+use Rattle.basics.specs.Basics.{lex}
+use Rattle.basics.proofs.Tests.{or-iff, and-iff, Alike}
 
 -- a strict total order
 pub record Order {A : Type 0} (less : A → A → Bool) : Type 0 where

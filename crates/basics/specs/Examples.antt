@@ -1,0 +1,57 @@
+-- Examples: what one is, and those of lists and outputs; the numbers that document 01 fixes.
+use mathlib.Core.Path.{_≡_}
+use mathlib.Core.List.{List, [], _∷_, map}
+use mathlib.Core.Option.{Option, none, some}
+use Prim.Native.Nat.{ℕ}
+use Rattle.basics.specs.Basics.{joined, total}
+use Rattle.basics.specs.Limits.{filler, maxName, noParent, recordSize, tableSize, maxFile, maxComponent, maxDepth, anyName, maxElements, labelSize, nodeSize, maxTwig, maxBytes, nameWord, nextWord, payloadWord}
+use Rattle.basics.specs.Refusals.{Refusal, Reply, value, refused, refuse, reply, fileLength, nameTooHigh, pairAgain, twigLength, twigParent, twigEdge, nameAsked, twigEnd, noRecord, notInClue, tooDeep, noNumber, noSpace, rootStays, notLabel, emptyClue, shortOutput, storeSize, unsound, badStream, badRoot, badTable}
+use Rattle.basics.specs.Outputs.{roomCheck}
+
+-- a refusal as its number and place
+unfoldable pub shown : Option Refusal → List ℕ
+shown none = []
+shown (some r) = r .number ∷ r .place ∷ []
+
+-- a reply as its value
+unfoldable pub told : Reply ℕ → List ℕ
+told (value n) = n ∷ []
+told (refused r) = []
+
+-- a check: what the definitions give, and what the paper says
+pub record Check : Type 0 where
+  pub computed : List ℕ
+  pub expected : List ℕ
+
+abbrev pub is : List ℕ → List ℕ → Check
+is a b = record { computed = a; expected = b }
+
+-- checks hold: the definitions give what the paper says
+abbrev pub Hold : List Check → Type 0
+Hold cs = map (λ c. c .computed) cs ≡ map (λ c. c .expected) cs
+
+-- lists and outputs
+unfoldable pub basicChecks : List Check
+basicChecks =
+    -- lists stand one after the other, and every number counts
+    is (joined ((1 ∷ 2 ∷ []) ∷ (3 ∷ []) ∷ [])) (1 ∷ 2 ∷ 3 ∷ [])
+    ∷ is (total (1 ∷ 2 ∷ []) ∷ []) (3 ∷ [])
+    -- a call that no check refuses answers its value, a refused one none
+    ∷ is (told (reply none 5)) (5 ∷ [])
+    ∷ is (told (reply (refuse notLabel 0) 5)) []
+    -- an output holds as many words as it is long
+    ∷ is (shown (roomCheck (8 ∷ []) (7 ∷ []))) []
+    ∷ is (shown (roomCheck (8 ∷ 9 ∷ []) (7 ∷ []))) (17 ∷ 0 ∷ [])
+    ∷ []
+
+-- the limits are the paper's
+unfoldable pub limits : List ℕ
+limits =
+    maxName ∷ tableSize ∷ filler ∷ maxFile ∷ maxComponent ∷ maxDepth ∷ maxElements ∷ labelSize ∷
+    recordSize ∷ nameWord ∷ nextWord ∷ payloadWord ∷ nodeSize ∷ maxTwig ∷ anyName ∷ noParent ∷ maxBytes ∷ []
+
+-- the numbers are 1 to 22
+unfoldable pub numbers : List ℕ
+numbers =
+    fileLength ∷ nameTooHigh ∷ pairAgain ∷ twigLength ∷ twigParent ∷ twigEdge ∷ nameAsked ∷ twigEnd ∷ noRecord ∷ notInClue ∷ tooDeep ∷ noNumber ∷ noSpace ∷
+    rootStays ∷ notLabel ∷ emptyClue ∷ shortOutput ∷ storeSize ∷ unsound ∷ badStream ∷ badRoot ∷ badTable ∷ []

@@ -1,0 +1,7 @@
+-- What all crates share: lists, limits, refusals, outputs.
+pub mod Basics
+pub mod Limits
+pub mod Refusals
+pub mod Outputs
+-- Examples.
+pub mod Examples

@@ -1,0 +1,15 @@
+-- The examples of pairs hold, and every refusal of a child-name file at its corner is what the paper says.
+use mathlib.Core.Path.{refl}
+use Rattle.basics.specs.Examples.{Hold}
+use Rattle.naming.specs.Examples.{pairChecks, fileRefusals}
+use Rattle.naming.proofs.Computing.{computing}
+
+-- the definitions give what the paper says
+pub pair-checks : Hold pairChecks
+unfolding computing
+pair-checks = refl
+
+-- the refusals of a child-name file have their numbers and places
+pub file-refusals : Hold fileRefusals
+unfolding computing
+file-refusals = refl

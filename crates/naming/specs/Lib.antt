@@ -1,0 +1,4 @@
+-- Names, and what may stand below them.
+pub mod Names
+-- Examples.
+pub mod Examples
