@@ -7,7 +7,7 @@ use Rattle.basics.specs.Basics.{elim?, last}
 use Rattle.naming.specs.Names.{led, cluesOf, readNames}
 use Rattle.labelling.specs.Numbers.{number, articleNumber}
 use Rattle.labelling.specs.Labels.{Label, labelOf, labelWords, decodeCall, kinshipCall}
-use Rattle.storage.specs.Updates.{Answer, newStore}
+use Rattle.store_calls.specs.Updates.{Answer, newStore}
 use Rattle.printouts.specs.Printing.{text, joinedBy, labelText}
 use Rattle.model.specs.Book.{Call, entry, deletion, answer}
 use Rattle.basics.specs.Examples.{shown, told, Check, is}

@@ -5,7 +5,7 @@ use mathlib.Core.Option.{Option}
 use Rattle.labelling.specs.Labels.{labelCheck}
 use Rattle.basics.specs.Refusals.{Refusal, first}
 use Rattle.storage.specs.Store.{Element}
-use Rattle.storage.specs.Updates as model
+use Rattle.store_calls.specs.Updates as model
 use Rattle.refusals.specs.Answers.{verdictOf}
 use Rattle.store_checks.specs.Stores.{storeCheck}
 use Rattle.changes.specs.declared.Change.{Change}

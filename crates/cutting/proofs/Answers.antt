@@ -16,7 +16,7 @@ use Rattle.patterns.specs.Twigs.{nameCheck}
 use Rattle.patterns.specs.Matches.{labelsWords}
 use Rattle.storage.specs.Store.{elements}
 use Rattle.basics.specs.Outputs as outputs
-use Rattle.storage.specs.Cutting as model
+use Rattle.store_calls.specs.Cutting as model
 use Rattle.basics.proofs.Refusals.{first-last}
 use Rattle.refusals.specs.Answers.{verdictOf, filled, refusedBy, listingOf}
 use Rattle.refusals.specs.declared.Listing.{Listing}

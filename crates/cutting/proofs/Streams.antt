@@ -10,7 +10,7 @@ use Rattle.basics.specs.Basics.{keep}
 use Rattle.labelling.specs.Labels.{Label}
 use Rattle.patterns.specs.Matches.{asks}
 use Rattle.storage.specs.Store.{Element, readElement, elements}
-use Rattle.storage.specs.Cutting.{stream}
+use Rattle.store_calls.specs.Cutting.{stream}
 use Rattle.basics.proofs.Scans.{from-cons}
 use Rattle.storage.proofs.Sizes.{length-elements-read}
 use Rattle.records.specs.Records.{recordAt}

@@ -18,7 +18,7 @@ ghost use Rattle.basics.specs.Limits.{labelSize, recordSize};
 ghost use Rattle.patterns.specs.Matches.{labelsWords};
 ghost use Rattle.patterns.specs.Matches as matches;
 ghost use Rattle.storage.specs.Store.{readElement, elements};
-ghost use Rattle.storage.specs.Cutting as model;
+ghost use Rattle.store_calls.specs.Cutting as model;
 ghost use Rattle.refusals.specs.Answers.{filled, listingOf};
 ghost use Rattle.records.specs.Records.{recordAt};
 ghost use Rattle.cutting.specs.Words.{Laid};

@@ -12,7 +12,7 @@ use Rattle.basics.specs.Refusals.{Refusal, refuse, first, noRecord, rootStays}
 use Rattle.naming.specs.Names.{cluesOf}
 use Rattle.labelling.specs.Labels.{Label, labelOf}
 use Rattle.storage.specs.Store.{elements, find}
-use Rattle.storage.specs.Updates.{rootStaysCheck, foundCheck, deletionRefusal, delete}
+use Rattle.store_calls.specs.Updates.{rootStaysCheck, foundCheck, deletionRefusal, delete}
 use Rattle.basics.proofs.Refusals.{check-passed, check-failed, first-here, first-next}
 use Rattle.refusals.specs.Answers.{verdictOf}
 use Rattle.refusals.specs.declared.Refusal.{Refusal as Shown}

@@ -12,7 +12,7 @@ use Rattle.basics.specs.Limits.{recordSize}
 use Rattle.naming.specs.Names.{Clues}
 use Rattle.labelling.specs.Labels.{Label}
 use Rattle.storage.specs.Store.{Element, storeWords, elements, soundCheck}
-use Rattle.storage.specs.Updates.{without}
+use Rattle.store_calls.specs.Updates.{without}
 use Rattle.storage.proofs.Sizes.{length-elements-read}
 use Rattle.moving.specs.Moves.{removed}
 use Rattle.lookup.specs.Places.{placeAt, passes, leading}

@@ -13,7 +13,7 @@ use refusals::refuse;
 ghost use mathlib.Core.Path.{_≡_};
 ghost use mathlib.Core.Option.{some};
 ghost use Rattle.storage.specs.Store.{elements};
-ghost use Rattle.storage.specs.Updates as model;
+ghost use Rattle.store_calls.specs.Updates as model;
 ghost use Rattle.lookup.specs.Places.{placeAt, Searchable};
 ghost use Rattle.changes.specs.Answers.{changed, changeOf};
 ghost use Rattle.deletions.specs.Answers.{subtreeRemoved};

@@ -9,8 +9,8 @@ use Rattle.basics.specs.Basics.{elim?}
 use Rattle.basics.specs.Limits.{maxDepth, recordSize, nextWord}
 use Rattle.labelling.specs.Labels.{Label, labelOf, labelWords, isLabel}
 use Rattle.storage.specs.Store.{elementWords, readElement, elements}
-use Rattle.storage.specs.Updates.{spaceCheck}
-use Rattle.storage.proofs.Sizes.{space-iff}
+use Rattle.store_calls.specs.Updates.{spaceCheck}
+use Rattle.store_calls.proofs.Placed.{space-iff}
 use Rattle.refusals.specs.Answers.{verdictOf}
 use Rattle.refusals.specs.declared.Refusal.{Refusal as Shown}
 use Rattle.refusals.specs.declared.Verdict.{Verdict}

@@ -12,7 +12,7 @@ use Rattle.basics.specs.Limits.{maxDepth, recordSize, nextWord}
 use Rattle.naming.specs.Names.{Clues}
 use Rattle.labelling.specs.Labels.{Label}
 use Rattle.storage.specs.Store.{Element, elementWords, storeWords, elements, elementAt, soundCheck}
-use Rattle.storage.specs.Updates.{given, raised, placed, entered}
+use Rattle.store_calls.specs.Updates.{given, raised, placed, entered}
 use Rattle.basics.proofs.Lists.{for-map}
 use Rattle.storage.proofs.Sizes.{length-elements-read}
 use Rattle.storage.proofs.Words.{length-elementWords}

@@ -10,10 +10,10 @@ use Rattle.basics.specs.Refusals.{Refusal, refuse, first, noRecord}
 use Rattle.naming.specs.Names.{cluesOf}
 use Rattle.labelling.specs.Labels.{Label, labelOf, labelWords}
 use Rattle.storage.specs.Store.{Element, storeWords, readElement, elements, find, elementAt, soundCheck}
-use Rattle.storage.specs.Updates as model
+use Rattle.store_calls.specs.Updates as model
 use Rattle.basics.proofs.Refusals.{first-here, first-next}
-use Rattle.storage.proofs.Parents.{parent-nine}
-use Rattle.storage.proofs.Sizes.{space-iff}
+use Rattle.store_calls.proofs.Parents.{parent-nine}
+use Rattle.store_calls.proofs.Placed.{space-iff}
 use Rattle.refusals.specs.Answers.{verdictOf}
 use Rattle.refusals.specs.declared.Refusal.{Refusal as Shown}
 use Rattle.refusals.specs.declared.Verdict.{Verdict}

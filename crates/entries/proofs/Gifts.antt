@@ -16,10 +16,10 @@ use Rattle.basics.specs.Refusals.{Refusal, notInClue, tooDeep, noNumber}
 use Rattle.naming.specs.Names.{Clues, cluesOf, placeIn}
 use Rattle.labelling.specs.Labels.{Label}
 use Rattle.storage.specs.Store.{Element, readElement}
-use Rattle.storage.specs.Updates as model
+use Rattle.store_calls.specs.Updates as model
 use Rattle.basics.proofs.Lists.{member-at}
 use Rattle.naming.proofs.NameTables.{placed-at, placeIn-none}
-use Rattle.storage.proofs.Parents.{parent-ten, parent-eleven, parent-twelve, parent-passed, ParentFacts, parentCheck-iff}
+use Rattle.store_calls.proofs.Parents.{parent-ten, parent-eleven, parent-twelve, parent-passed, ParentFacts, parentCheck-iff}
 use Rattle.refusals.specs.Answers.{refusalOf, verdictOf}
 use Rattle.refusals.specs.declared.Refusal.{Refusal as Shown}
 use Rattle.refusals.specs.declared.Verdict.the-variants as verdict

@@ -13,7 +13,7 @@ use Rattle.basics.specs.Basics.{_∈_, joined, Ascending, one-more}
 use Rattle.basics.specs.Limits.{maxDepth, recordSize, nextWord}
 use Rattle.labelling.specs.Labels.{Label, before, same, labelWords}
 use Rattle.storage.specs.Store.{Element, elementWords, storeWords}
-use Rattle.storage.specs.Updates.{raised}
+use Rattle.store_calls.specs.Updates.{raised}
 use Rattle.basics.proofs.Tests.{is-true, is-false, Tells, passes as told, fails as untold}
 use Rattle.basics.proofs.Lists.{here, there}
 use Rattle.labelling.proofs.LabelOrder.{before-order, same-alike, same?}

@@ -10,7 +10,7 @@ use Rattle.naming.specs.Names.{Clues}
 use Rattle.labelling.specs.Labels.{Label, labelWords}
 use Rattle.basics.specs.Refusals.{Refusal}
 use Rattle.storage.specs.Store.{Element, elementWords, readElement, elements}
-use Rattle.storage.specs.Updates as model
+use Rattle.store_calls.specs.Updates as model
 use Rattle.refusals.specs.Answers.{refusalOf, verdictOf}
 use Rattle.refusals.specs.declared.Verdict.{Verdict}
 use Rattle.records.specs.Records.{recordAt}

@@ -29,7 +29,7 @@ ghost use Rattle.basics.specs.Limits.{labelSize, recordSize};
 ghost use Rattle.naming.specs.Names.{cluesOf};
 ghost use Rattle.labelling.specs.Labels.{labelOf, labelWords, isLabel};
 ghost use Rattle.storage.specs.Store.{readElement, elements};
-ghost use Rattle.storage.specs.Updates as model;
+ghost use Rattle.store_calls.specs.Updates as model;
 ghost use Rattle.records.specs.Records.{recordAt};
 ghost use Rattle.lookup.specs.Places.{placeAt, Searchable};
 ghost use Rattle.entries.specs.Answers.{refusedEntry, entered, entryOf, giftOf, childWritten, childAdded, enteredBelow};

@@ -5,7 +5,7 @@ use mathlib.Core.Path.{_≡_, ap, _∙_}
 use mathlib.Core.List.{List}
 use Rattle.basics.specs.Outputs as outputs
 use Rattle.patterns.specs.Matching.{matchCall}
-use Rattle.storage.specs.Cutting as cutting
+use Rattle.store_calls.specs.Cutting as cutting
 use Rattle.refusals.specs.Answers.{Filled, filled, listingOf}
 use Rattle.refusals.specs.declared.Listing.{Listing}
 use Rattle.table_bytes.specs.Rows.{tableIn}

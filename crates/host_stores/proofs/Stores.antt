@@ -3,7 +3,7 @@
 use Prim.Native.Nat.{ℕ}
 use mathlib.Core.Path.{_≡_, ap, _∙_}
 use mathlib.Core.List.{List}
-use Rattle.storage.specs.Updates as updates
+use Rattle.store_calls.specs.Updates as updates
 use Rattle.changes.specs.Answers.{Changed, changed, changeOf}
 use Rattle.entries.specs.Answers.{Entered, entered, entryOf}
 use Rattle.changes.specs.declared.Change.{Change}

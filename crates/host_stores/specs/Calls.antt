@@ -1,7 +1,7 @@
 -- What a host program is told of a store that is changed.
 use Prim.Native.Nat.{ℕ}
 use mathlib.Core.List.{List}
-use Rattle.storage.specs.Updates.{Answer}
+use Rattle.store_calls.specs.Updates.{Answer}
 use Rattle.answers.specs.Reports.{Report, reportOf}
 
 -- a new store, an entry and a deletion tell the count

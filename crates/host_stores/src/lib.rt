@@ -3,7 +3,7 @@ use answers::tell;
 use answers::tell_label;
 use table_bytes::table_in;
 ghost use mathlib.Core.Path.{_≡_};
-ghost use Rattle.storage.specs.Updates as updates;
+ghost use Rattle.store_calls.specs.Updates as updates;
 ghost use Rattle.table_bytes.specs.Rows.{tableIn};
 ghost use Rattle.answers.specs.Reports.{fitted, report};
 ghost use Rattle.host_stores.specs.Calls.{changeReport};

@@ -14,7 +14,7 @@ use Rattle.basics.specs.Limits.{maxDepth, recordSize}
 use Rattle.naming.specs.Names.{Clues}
 use Rattle.labelling.specs.Labels.{Label, before, within, same, labelOf}
 use Rattle.storage.specs.Store.{Element, readElement, records, elements, find, soundCheck}
-use Rattle.storage.specs.Updates.{placed, without}
+use Rattle.store_calls.specs.Updates.{placed, without}
 use Rattle.basics.proofs.Tests.{or-iff, and-iff, decide, is-true, is-false, Tells, passes as told, fails as untold}
 use Rattle.basics.proofs.Lists.{here, member-at}
 use Rattle.labelling.proofs.LabelOrder.{before-order, before-one-way, before-extend, extend-before, within-iff, within-self, same?}

@@ -8,8 +8,8 @@ use lib.ListN.{length}
 use Rattle.naming.specs.Names.{cluesOf}
 use Rattle.labelling.specs.Labels.{Label, same, labelOf, decodeCall}
 use Rattle.patterns.specs.Twigs.{readTwig}
-use Rattle.storage.specs.Updates.{Answer}
-use Rattle.storage.specs.Cutting.{fullList}
+use Rattle.store_calls.specs.Updates.{Answer}
+use Rattle.store_calls.specs.Cutting.{fullList}
 use Rattle.model.specs.Book.{moved, Book, Line, Call, answer, deletion, entry, bookAfter, childLine}
 use Rattle.model.specs.Demand3.{Next, Accepted, DeletionHolds, EntryHolds}
 use Rattle.basics.proofs.Tests.{is-false, is-true}

@@ -10,7 +10,7 @@ use Rattle.basics.specs.Refusals.{Refusal}
 use Rattle.naming.specs.Names.{cluesOf}
 use Rattle.labelling.specs.Numbers.{number, articleNumber}
 use Rattle.labelling.specs.Labels.{Label}
-use Rattle.storage.specs.Updates.{given}
+use Rattle.store_calls.specs.Updates.{given}
 use Rattle.model.specs.Book.{lineElement, opened, called, Book, bookWords, deletion, Call, answer, bookAfter, givenOut, entry}
 use Rattle.model.specs.Claims.{NothingDeleted, ArticleNumbers, lastBelow}
 use Rattle.naming.proofs.NameTables.{placed-at}

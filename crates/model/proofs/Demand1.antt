@@ -10,9 +10,9 @@ use Rattle.basics.specs.Limits.{labelSize}
 use Rattle.basics.specs.Refusals.{Refusal, refused, reply}
 use Rattle.naming.specs.Names.{cluesOf}
 use Rattle.labelling.specs.Labels.{decodeCall, kinshipCall, followsCall, decodeRefusal, labelOf, Decoding, labelCheck, namesIn, Decoded, decode, path, stuck}
-use Rattle.storage.specs.Updates.{delete, enter, newStore}
+use Rattle.store_calls.specs.Updates.{delete, enter, newStore}
 use Rattle.basics.specs.Outputs.{listed}
-use Rattle.storage.specs.Cutting.{cut, cutRefusal}
+use Rattle.store_calls.specs.Cutting.{cut, cutRefusal}
 use Rattle.patterns.specs.Matching.{matchCall, matchRefusal}
 use Rattle.model.specs.Demand1.{Demand1}
 use Rattle.basics.proofs.Refusals.{first-none, check-none, refused-is}
@@ -20,7 +20,7 @@ use Rattle.naming.proofs.NameFiles.{read-refusal, refused-table, file-table, fi
 use Rattle.labelling.proofs.Decode.{starts}
 use Rattle.labelling.proofs.LabelWords.{labelOf-good}
 use Rattle.basics.proofs.Outputs.{length-over, take-over, drop-over, listed-refused, room-iff, listed-refusal}
-use Rattle.storage.proofs.Updates.{refusal-of, newStore-refused, newStore-slice, enter-refused, enter-slice, delete-refused, delete-slice}
+use Rattle.store_calls.proofs.Updates.{refusal-of, newStore-refused, newStore-slice, enter-refused, enter-slice, delete-refused, delete-slice}
 use Rattle.model.proofs.RefusedBy.{file-by, decoding-by, labels-by, new-store-by, entry-by, deletion-by, cut-by, match-by, print-by}
 
 -- decoding refuses as its checks do

@@ -23,8 +23,8 @@ use Rattle.storage.proofs.Sizes.{size-iff, length-elements-read}
 use Rattle.storage.proofs.Faults.{sound-check}
 use Rattle.storage.proofs.SoundStore.{store-elements, sound-root, sound-parents}
 use Rattle.patterns.proofs.StreamChecks.{streams-accepted, streams-labels}
-use Rattle.storage.proofs.StreamWords.{streams-sound}
-use Rattle.storage.proofs.Listings.{Stored, cut-listed, match-listed}
+use Rattle.store_calls.proofs.StreamWords.{streams-sound}
+use Rattle.store_calls.proofs.Listings.{Stored, cut-listed, match-listed}
 use Rattle.basics.proofs.Outputs.{listed-whole, listed-refusal}
 use Rattle.model.proofs.Good.{snoc-root}
 use Rattle.model.proofs.Trees.{Has, Rooted, ancestor, decode-names}

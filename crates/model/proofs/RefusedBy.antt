@@ -17,8 +17,8 @@ use Rattle.basics.specs.Outputs.{roomCheck}
 use Rattle.patterns.specs.Twigs.{Twig, readTwig, nameCheck, nodeCheck, nodesCheck, twigCheck}
 use Rattle.patterns.specs.Matching.{streamsCheck, matchRefusal}
 use Rattle.storage.specs.Store.{Element, sizeCheck, soundCheck}
-use Rattle.storage.specs.Updates.{parentCheck, spaceCheck, rootStaysCheck, foundCheck, newStoreRefusal, entryRefusal, deletionRefusal}
-use Rattle.storage.specs.Cutting.{cutRefusal}
+use Rattle.store_calls.specs.Updates.{parentCheck, spaceCheck, rootStaysCheck, foundCheck, newStoreRefusal, entryRefusal, deletionRefusal}
+use Rattle.store_calls.specs.Cutting.{cutRefusal}
 use Rattle.printouts.specs.Printing.{storeFileCheck, bufferCheck, printRefusal}
 use Rattle.model.specs.RefusedBy.{RefusedBy, placedNumbers, fileNumbers, decodingNumbers, labelNumbers, newStoreNumbers, entryNumbers, deletionNumbers, cutNumbers, matchNumbers, printNumbers}
 use Rattle.basics.proofs.Tests.{and-iff, eqb-alike}

@@ -13,7 +13,7 @@ use Rattle.labelling.specs.Numbers.{articleNumber}
 use Rattle.labelling.specs.Labels.{Label, labelOf}
 use Rattle.patterns.specs.Twigs.{childEdge}
 use Rattle.patterns.specs.Matches.{holds}
-use Rattle.storage.specs.Updates.{given}
+use Rattle.store_calls.specs.Updates.{given}
 use Rattle.model.specs.Book.{Line, Book, entry, deletion, lineElement, lineAt, answer, Run, opened, called}
 
 -- how many of the labels given out stand right below a label

@@ -13,7 +13,7 @@ use Rattle.labelling.specs.Labels.{Label, within, decode, path, nameAt}
 use Rattle.patterns.specs.Twigs.{Twig, twigCheck, readTwig, wanted, OneLeaf, nameCheck, leafNames}
 use Rattle.patterns.specs.Matches.{earlier, matches, Match, GoodStreams, IsMatch, PathSolution, labelsWords, matchWords}
 use Rattle.storage.specs.Store.{Element, elements, rootOf, sizeCheck, soundCheck}
-use Rattle.storage.specs.Cutting.{streams, stream, cut, Cuts, fullList, cutWords}
+use Rattle.store_calls.specs.Cutting.{streams, stream, cut, Cuts, fullList, cutWords}
 use Rattle.basics.specs.Outputs.{Listing}
 use Rattle.patterns.specs.Matching.{streamsCheck, dealt, matchCall}
 use Rattle.model.specs.Trees.{namesTo, Embedding}

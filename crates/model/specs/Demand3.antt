@@ -15,9 +15,9 @@ use Rattle.labelling.specs.Labels.{Label, within, same, labelOf, labelWords, na
 use Rattle.patterns.specs.Twigs.{Twig, readTwig, twigCheck, nameCheck, wanted, leafNames}
 use Rattle.patterns.specs.Matches.{Match, earlier, labelsWords, matchWords, less}
 use Rattle.storage.specs.Store.{sizeCheck}
-use Rattle.storage.specs.Updates.{given, newStore}
+use Rattle.store_calls.specs.Updates.{given, newStore}
 use Rattle.basics.specs.Outputs.{Listing}
-use Rattle.storage.specs.Cutting.{stream, cut, Cuts, fullList, cutWords}
+use Rattle.store_calls.specs.Cutting.{stream, cut, Cuts, fullList, cutWords}
 use Rattle.patterns.specs.Matching.{matchCall}
 use Rattle.model.specs.Book.{Line, Book, Call, entry, deletion, lineElement, lineAt, sooner, inOrder, bookElements, bookWords, bookRefusal, bookAfter, childLine, answer, Run, rootLine}
 use Rattle.model.specs.Trees.{Embedding}

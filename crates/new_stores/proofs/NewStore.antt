@@ -13,7 +13,7 @@ use Rattle.basics.specs.Refusals.{refuse, check, first, storeSize, badRoot}
 use Rattle.naming.specs.Names.{isName, rootCheck}
 use Rattle.labelling.specs.Labels.{labelWords}
 use Rattle.storage.specs.Store.{elementWords, isSlice}
-use Rattle.storage.specs.Updates.{newStoreRefusal, newStore}
+use Rattle.store_calls.specs.Updates.{newStoreRefusal, newStore}
 use Rattle.storage.proofs.Sizes.{slice-iff}
 use Rattle.refusals.specs.Answers.{verdictOf}
 use Rattle.refusals.specs.declared.Verdict.{Verdict}

@@ -10,7 +10,7 @@ use refusals::Verdict;
 use refusals::refuse;
 ghost use mathlib.Core.Path.{_≡_};
 ghost use lib.ListN.{getD};
-ghost use Rattle.storage.specs.Updates as model;
+ghost use Rattle.store_calls.specs.Updates as model;
 ghost use Rattle.changes.specs.Answers.{changed, changeOf};
 
 // A new store: record 0 from a name and two payload words. 18, 21.

@@ -14,10 +14,10 @@ use Rattle.patterns.specs.Twigs.{nameCheck}
 use Rattle.patterns.specs.Matches.{labelsWords}
 use Rattle.storage.specs.Store.{elements, rootOf}
 use Rattle.basics.specs.Outputs as outputs
-use Rattle.storage.specs.Cutting as model
+use Rattle.store_calls.specs.Cutting as model
 use Rattle.basics.proofs.Refusals.{first-rest, first-last}
 use Rattle.storage.proofs.SoundStore.{SoundElements, store-elements}
-use Rattle.storage.proofs.StreamWords.{for-stream}
+use Rattle.store_calls.proofs.StreamWords.{for-stream}
 use Rattle.basics.proofs.Outputs.{listed-refusal, listed-whole, room-iff}
 use Rattle.refusals.specs.Answers.{verdictOf, filled, listingOf}
 use Rattle.refusals.specs.declared.Listing.{Listing}

@@ -16,7 +16,7 @@ use Rattle.patterns.specs.Twigs.{Twig, nodeAt, isLeaf, wanted, leafNames}
 use Rattle.patterns.specs.Matches.{labelsWords}
 use Rattle.patterns.proofs.MatchWords.{length-labelsWords}
 use Rattle.patterns.proofs.StreamChecks.{length-wanted}
-use Rattle.storage.proofs.StreamWords.{laid}
+use Rattle.store_calls.proofs.StreamWords.{laid}
 use Rattle.leaves.proofs.Leaves.{wanted-at, wanted-from}
 
 -- the leaves of two lists of records

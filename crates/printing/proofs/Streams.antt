@@ -15,11 +15,11 @@ use Rattle.patterns.specs.Twigs.{nodeAt, readTwig, isLeaf, wanted, leafNames, n
 use Rattle.patterns.specs.Matches.{labelsWords}
 use Rattle.storage.specs.Store.{elements}
 use Rattle.basics.specs.Outputs as outputs
-use Rattle.storage.specs.Cutting as model
+use Rattle.store_calls.specs.Cutting as model
 use Rattle.basics.proofs.Scans.{tail-is}
 use Rattle.patterns.proofs.TwigBytes.{twigCheck-iff, nameCheck-iff, readTwig-at, length-readTwig}
 use Rattle.storage.proofs.Sizes.{size-iff, length-elements-read}
-use Rattle.storage.proofs.StreamWords.{laid, length-stream}
+use Rattle.store_calls.proofs.StreamWords.{laid, length-stream}
 use Rattle.patterns.proofs.StreamChecks.{length-wanted}
 use Rattle.patterns.proofs.MatchWords.{length-labelsWords}
 use Rattle.refusals.specs.Answers.{verdictOf, filled, refusedBy, listingOf}

@@ -18,12 +18,12 @@ use Rattle.patterns.specs.Twigs.{readTwig, wanted, leafNames, twigCheck}
 use Rattle.patterns.specs.Matches.{labelsWords}
 use Rattle.storage.specs.Store.{readElement, elements, rootOf}
 use Rattle.basics.specs.Outputs.{roomCheck}
-use Rattle.storage.specs.Cutting.{fullList}
+use Rattle.store_calls.specs.Cutting.{fullList}
 use Rattle.patterns.specs.Matching.{matchesOf}
 use Rattle.printouts.specs.Printing.{refusalText, bufferCheck}
 use Rattle.basics.proofs.Refusals.{check-passed}
 use Rattle.storage.proofs.Sizes.{size-iff, length-elements-read}
-use Rattle.storage.proofs.StreamWords.{dealt-wanted, streams-laid, counted, laid}
+use Rattle.store_calls.proofs.StreamWords.{dealt-wanted, streams-laid, counted, laid}
 use Rattle.refusals.specs.Answers.{verdictOf}
 use Rattle.refusals.specs.declared.Listing.{Listing}
 use Rattle.refusals.specs.declared.Refusal as declared

@@ -10,7 +10,7 @@ use Rattle.labelling.specs.Labels.{Label}
 use Rattle.patterns.specs.Twigs.{readTwig, wanted, leafNames, twigCheck}
 use Rattle.patterns.specs.Matches.{labelsWords}
 use Rattle.storage.specs.Store.{elements, sizeCheck, soundCheck}
-use Rattle.storage.specs.Cutting.{stream, streams}
+use Rattle.store_calls.specs.Cutting.{stream, streams}
 use Rattle.patterns.specs.Matching.{streamsCheck}
 
 -- an accepted store: its table, its size and its records

@@ -10,7 +10,7 @@ use Rattle.naming.specs.Names.{cluesOf}
 use Rattle.patterns.specs.Twigs.{readTwig, twigCheck}
 use Rattle.patterns.specs.Matches.{Match, labelsWords, matchWords}
 use Rattle.storage.specs.Store.{elements, soundCheck, rootOf}
-use Rattle.storage.specs.Cutting.{streams, fullList}
+use Rattle.store_calls.specs.Cutting.{streams, fullList}
 use Rattle.printouts.specs.Printing.{matchesText, refusalText, bufferCheck}
 use Rattle.refusals.specs.declared.Refusal as declared
 

@@ -15,7 +15,7 @@ use Rattle.labelling.specs.Labels.{Label}
 use Rattle.patterns.specs.Twigs.{readTwig, twigCheck}
 use Rattle.patterns.specs.Matches.{Match, labelsWords, matchWords}
 use Rattle.storage.specs.Store.{Element, elements, soundCheck, rootOf}
-use Rattle.storage.specs.Cutting.{streams, fullList}
+use Rattle.store_calls.specs.Cutting.{streams, fullList}
 
 -- the bytes of a text
 unfoldable pub text : String → List ℕ

@@ -8,7 +8,7 @@ use borrow.Author.Tests.{eq-eqb, ne-eqb, le-ltb, lt-ltb, le-leb, lt-leb, not-tru
 use Rattle.basics.specs.Limits.{recordSize, maxElements}
 use Rattle.basics.specs.Refusals.{check, refuse, storeSize, noSpace}
 use Rattle.storage.specs.Store.{isSlice, sizeCheck}
-use Rattle.storage.specs.Updates.{spaceCheck}
+use Rattle.store_calls.specs.Updates.{spaceCheck}
 use Rattle.refusals.specs.Answers.{verdictOf}
 use Rattle.refusals.specs.declared.Verdict.{Verdict}
 use Rattle.refusals.specs.declared.Verdict.the-variants as verdict

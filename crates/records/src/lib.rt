@@ -7,7 +7,7 @@ ghost use Prim.Native.Nat.{_+_, _*_, _≤_};
 ghost use lib.ListN.{length, getD};
 ghost use Rattle.labelling.specs.Labels.{labelOf};
 ghost use Rattle.storage.specs.Store as model;
-ghost use Rattle.storage.specs.Updates.{spaceCheck};
+ghost use Rattle.store_calls.specs.Updates.{spaceCheck};
 ghost use Rattle.refusals.specs.Answers.{verdictOf};
 ghost use Rattle.records.specs.Records.{recordAt};
 

@@ -1,7 +1,4 @@
--- The store, and the calls on it.
+-- Records, and which of them are sound.
 pub mod Store
-pub mod Updates
-pub mod Cutting
 -- Examples.
 pub mod Examples
-pub mod RefusalChecks

@@ -16,7 +16,7 @@ use Rattle.patterns.specs.Matches.{Match, labelsWords, matchWords}
 use Rattle.basics.proofs.Lists.{here, there}
 use Rattle.labelling.proofs.LabelWords.{length-labelWords}
 use Rattle.patterns.proofs.MatchWords.{length-labelsWords, length-matchWords}
-use Rattle.storage.proofs.StreamWords.{labelsIn-labelsWords}
+use Rattle.store_calls.proofs.StreamWords.{labelsIn-labelsWords}
 use Rattle.texts.specs.Texts.{matchesIn, Depths}
 
 -- there are as many matches as are read

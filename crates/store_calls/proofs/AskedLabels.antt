@@ -12,8 +12,8 @@ use Rattle.basics.specs.Basics.{_∈_, elim?, keep, upTo}
 use Rattle.labelling.specs.Labels.{Label}
 use Rattle.patterns.specs.Twigs.{Twig, nodeAt, isLeaf, wanted}
 use Rattle.patterns.specs.Matches.{asks}
 use Rattle.storage.specs.Store.{Element}
-use Rattle.storage.specs.Cutting.{streams, stream}
+use Rattle.store_calls.specs.Cutting.{streams, stream}
 use Rattle.basics.proofs.Tests.{Tells, passes, fails, tells}
 use Rattle.basics.proofs.Lists.{nowhere, keep-iff}
 use Rattle.basics.proofs.Ranges.{length-upTo, map-upTo}

@@ -12,15 +12,16 @@ use Rattle.basics.specs.Limits.{labelSize, recordSize}
 use Rattle.basics.specs.Refusals.{Refusal}
 use Rattle.naming.specs.Names.{cluesOf, tableCheck}
 use Rattle.labelling.specs.Labels.{labelOf, labelWords, labelCheck}
 use Rattle.storage.specs.Store.{Element, elementWords, storeWords, elements, find, elementAt, sizeCheck, soundCheck}
-use Rattle.storage.specs.Updates.{Answer, newStoreRefusal, newStore, parentCheck, spaceCheck, entryRefusal, given, entered, enter, rootStaysCheck, foundCheck, deletionRefusal, without, delete}
+use Rattle.store_calls.specs.Updates.{Answer, newStoreRefusal, newStore, parentCheck, spaceCheck, entryRefusal, given, entered, enter, rootStaysCheck, foundCheck, deletionRefusal, without, delete}
 use Rattle.basics.proofs.Refusals.{check-none, first-none, first-iff, last-iff, taken, refused-is}
 use Rattle.basics.proofs.Outputs.{take-over, drop-over, length-over}
 use Rattle.storage.proofs.Words.{length-elementWords, length-storeWords}
-use Rattle.storage.proofs.Sizes.{slice-iff, size-iff, space-iff, length-elements-read}
+use Rattle.store_calls.proofs.Placed.{space-iff}
+use Rattle.storage.proofs.Sizes.{slice-iff, size-iff, length-elements-read}
 use Rattle.storage.proofs.SoundStore.{sound-fit}
-use Rattle.storage.proofs.Parents.{ParentFacts, parentCheck-iff}
-use Rattle.storage.proofs.Changes.{length-entered, fit-entered, length-without, fit-without}
+use Rattle.store_calls.proofs.Parents.{ParentFacts, parentCheck-iff}
+use Rattle.store_calls.proofs.Changes.{length-entered, fit-entered, length-without, fit-without}
 
 -- the refusal that an answer carries is the one it hangs on
 pub refusal-of : (o : Option Refusal) (a : Answer) (f : Refusal → Answer) → a .refusal ≡ none → ((r : Refusal) → f r .refusal ≡ some r) →

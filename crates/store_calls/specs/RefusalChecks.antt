@@ -9,9 +9,9 @@ use Rattle.basics.specs.Limits.{filler, recordSize, maxDepth, anyName}
 use Rattle.labelling.specs.Labels.{Label, labelWords}
 use Rattle.basics.specs.Examples.{Check, is, shown}
 use Rattle.naming.specs.Examples.{tornTable, loopTable}
 use Rattle.storage.specs.Store.{Element, elementWords, storeWords}
-use Rattle.storage.specs.Updates.{delete, enter, newStore}
-use Rattle.storage.specs.Cutting.{cut}
+use Rattle.store_calls.specs.Updates.{delete, enter, newStore}
+use Rattle.store_calls.specs.Cutting.{cut}
 
 -- an element without payload
 unfoldable pub element : Label → ℕ → ℕ → Element

@@ -11,16 +11,16 @@ use Rattle.basics.specs.Refusals.{first, shortOutput, badRoot}
 use Rattle.naming.specs.Names.{tableCheck, cluesOf, rootCheck, isName}
 use Rattle.patterns.specs.Twigs.{nameCheck, twigCheck, leafNames, wanted, readTwig}
 use Rattle.patterns.specs.Matches.{labelsWords, matchWords, matches}
 use Rattle.storage.specs.Store.{Element, soundCheck, elements, sizeCheck}
 use Rattle.basics.specs.Outputs.{listed, Listing, roomCheck}
-use Rattle.storage.specs.Cutting.{cut, Cuts, cutRefusal, cutWords, stream, fullList, streams}
+use Rattle.store_calls.specs.Cutting.{cut, Cuts, cutRefusal, cutWords, stream, fullList, streams}
 use Rattle.patterns.specs.Matching.{matchCall, matchRefusal, matchesOf}
 use Rattle.basics.proofs.Refusals.{check-passed}
 use Rattle.patterns.proofs.MatchWords.{length-labelsWords}
 use Rattle.storage.proofs.Words.{Fit}
 use Rattle.basics.proofs.Outputs.{take-over, listed-refusal, listed-whole}
 use Rattle.storage.proofs.SoundStore.{SoundElements}
-use Rattle.storage.proofs.StreamWords.{for-stream, dealt-wanted, streams-laid}
+use Rattle.store_calls.proofs.StreamWords.{for-stream, dealt-wanted, streams-laid}
 
 -- a store under an accepted table whose records are sound and read as the elements es
 pub record Stored (rows : List (List ℕ)) (ws : List ℕ) (count root : ℕ) (es : List Element) : Type 0 where

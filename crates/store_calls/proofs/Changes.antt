@@ -13,16 +13,16 @@ use Rattle.basics.specs.Limits.{maxDepth}
 use Rattle.naming.specs.Names.{Clues, placeIn}
 use Rattle.labelling.specs.Numbers.{number, Least}
 use Rattle.labelling.specs.Labels.{Label, before, within, same}
 use Rattle.storage.specs.Store.{Element}
-use Rattle.storage.specs.Updates.{given, raised, placed, entered, without}
+use Rattle.store_calls.specs.Updates.{given, raised, placed, entered, without}
 use Rattle.basics.proofs.Tests.{is-true, is-false, test-equal, or-iff, decide, Tells, passes, fails, tells}
 use Rattle.basics.proofs.Lists.{here, there, here-or-there, nowhere, for-cons, for-map, keep-iff, keep-ascending, map-ascending, length-keep}
 use Rattle.naming.proofs.NameTables.{placed-at}
 use Rattle.labelling.proofs.Number.{number-least}
 use Rattle.labelling.proofs.LabelOrder.{before-order, before-one-way, before-iff, before-extend, extend-before, before-cancel, within-iff, within-self, same-alike}
 use Rattle.storage.proofs.Words.{Fit}
-use Rattle.storage.proofs.Sizes.{length-placed, placed-only}
+use Rattle.store_calls.proofs.Placed.{length-placed, placed-only}
 use Rattle.storage.proofs.SoundStore.{ahead}
 
 -- the number given below a parent is the one for the place of the name in its clue
 pub given-number : (cl : Clues) (p : Element) (name k : ℕ) → placeIn name (cl (p .name)) ≡ some k → given cl p name ≡ number (length (cl (p .name))) k (p .next)

@@ -13,13 +13,13 @@ use Rattle.basics.specs.Limits.{maxComponent, maxDepth}
 use Rattle.basics.specs.Refusals.{Refusal, refuse, check, first, noRecord, notInClue, tooDeep, noNumber, rootStays}
 use Rattle.naming.specs.Names.{Clues, placeIn}
 use Rattle.labelling.specs.Labels.{Label}
 use Rattle.storage.specs.Store.{Element, find}
-use Rattle.storage.specs.Updates.{parentCheck, given, rootStaysCheck, foundCheck}
+use Rattle.store_calls.specs.Updates.{parentCheck, given, rootStaysCheck, foundCheck}
 use Rattle.basics.proofs.Tests.{decide}
 use Rattle.basics.proofs.Refusals.{check-passed, check-failed, check-iff, refuse-number, first-here, first-next, first-both, check-none}
 use Rattle.basics.proofs.Lists.{stands-iff}
 use Rattle.naming.proofs.NameTables.{placeIn-none}
 use Rattle.storage.proofs.Finding.{find-none, find-mem}
 
 -- a name of a clue has a place
 pub has-place : (c : ℕ) (cs : List ℕ) → c ∈ cs → (k : ℕ) × (placeIn c cs ≡ some k)

@@ -1,8 +1,8 @@
 -- Every refusal of new store, entry, deletion and cutting at its corner is what the paper says.
 use mathlib.Core.Path.{refl}
 use Rattle.basics.specs.Examples.{Hold}
-use Rattle.storage.specs.RefusalChecks.{newStoreRefusals, entryRefusals, deletionRefusals, cutRefusals}
-use Rattle.storage.proofs.Computing.{computing}
+use Rattle.store_calls.specs.RefusalChecks.{newStoreRefusals, entryRefusals, deletionRefusals, cutRefusals}
+use Rattle.store_calls.proofs.Computing.{computing}
 
 -- the refusals of a new store have their numbers and places
 pub new-store-refusals : Hold newStoreRefusals
