@@ -43,7 +43,15 @@ fn parent_at(p: usize, start: usize, count: usize) -> usize {
     std::num::wrapping_sub_usize(from, 1)
 }
 
-// An entry of a parent and a name, if the row has them; the count after it. Its payload is the row's mark, one more with each entry if the step is not 0, and the name.
+// The mark of an entry: the row's, one more with each entry if the step is not 0.
+fn mark_of(row: &[usize], entered: usize) -> u16 {
+    if number(row, 7) == 0 {
+        return half(row, 6);
+    }
+    std::num::wrapping_add_u16(half(row, 6), (entered % 65536) as u16)
+}
+
+// An entry of a parent and a name, if the row has them; the count after it. Its payload is its mark and the name.
 fn add_one(row: &[usize], at: usize, words: &mut [u16], start: usize, count: usize) -> usize {
     if number(row, 0) <= at {
         return count;
@@ -52,12 +60,7 @@ fn add_one(row: &[usize], at: usize, words: &mut [u16], start: usize, count: usi
     let up = parent_at(number(row, at), start, count);
     copy(&mut parent, label_of(words, up));
     let name = octet(row, sum(at, 1));
-    let step = if number(row, 7) == 0 {
-        0
-    } else {
-        (std::num::wrapping_sub_usize(count, start) % 65536) as u16
-    };
-    let mark = std::num::wrapping_add_u16(half(row, 6), step);
+    let mark = mark_of(row, std::num::wrapping_sub_usize(count, start));
     let e = enter(
         table(number(row, 2)),
         front_mut(words, number(row, 3)),

@@ -27,6 +27,7 @@ use case_lines::ROW;
 use case_lines::bar_of;
 use case_lines::read_row;
 use case_lines::sum;
+use guards::behind_bytes;
 use guards::byte;
 use guards::front_bytes;
 
@@ -76,15 +77,11 @@ fn call_writing(letter: u8, row: &[usize], words: &mut [u16], was: &mut [u16]) {
     }
 }
 
-// The line that ends at a place, if one does; where the next one begins.
-fn run(text: &[u8], start: usize, end: usize, words: &mut [u16], was: &mut [u16]) -> usize {
-    if byte(text, end) != NEWLINE || end < start || text.len() < end {
-        return start;
-    }
-    let line = &text[start..end];
+// A line, if it has a bar.
+fn line(line: &[u8], words: &mut [u16], was: &mut [u16]) {
     let bar = bar_of(line);
     if bar == line.len() {
-        return sum(end, 1);
+        return;
     }
     let mut row = [0usize; ROW];
     read_row(line, bar, &mut row);
@@ -94,6 +91,15 @@ fn run(text: &[u8], start: usize, end: usize, words: &mut [u16], was: &mut [u16]
     call_reading(letter, &row, words, was);
     call_writing(letter, &row, words, was);
     say(b"\n");
+}
+
+// The line that ends at a place, if one does; where the next one begins.
+fn run(text: &[u8], start: usize, end: usize, words: &mut [u16], was: &mut [u16]) -> usize {
+    if byte(text, end) != NEWLINE {
+        return start;
+    }
+    let len = std::num::wrapping_sub_usize(end, start);
+    line(front_bytes(behind_bytes(text, start), len), words, was);
     sum(end, 1)
 }
 

@@ -81,33 +81,42 @@ pub fn items(row: &[usize], words: &[u16]) {
     say_number(count_of(&out, OLD));
 }
 
-// The axles and the curves of the small store, two of each.
-fn streams(words: &[u16]) -> [u16; FOUR_LABELS] {
+// The twig with the byte changed that a row tells.
+fn twig(row: &[usize]) -> [u8; 12] {
+    let mut t = TWIG;
+    put_byte(&mut t, number(row, 4), octet(row, 5));
+    t
+}
+
+// The axles and the curves of the small store, two of each, with the word changed that a row tells.
+fn streams(row: &[usize], words: &[u16]) -> [u16; FOUR_LABELS] {
     let mut s = [0u16; FOUR_LABELS];
     let t = table(0);
     let store = front(words, SMALL_WORDS);
     cut(t, store, SMALL_COUNT, AXLE, &mut s);
     cut(t, store, SMALL_COUNT, CURVE, behind_mut(&mut s, TWO_LABELS));
+    put_word(&mut s, number(row, 6), half(row, 7));
     s
+}
+
+// The matches that a row asks for, written to an output.
+fn match_by(row: &[usize], words: &[u16], out: &mut [u16]) -> Listing {
+    let counts = [number(row, 9), number(row, 10), number(row, 11)];
+    match_twig(
+        table(number(row, 1)),
+        octet(row, 2),
+        front_bytes(&twig(row), number(row, 3)),
+        front_numbers(&counts, std::num::wrapping_sub_usize(number(row, 0), 8)),
+        &streams(row, words),
+        front_mut(out, number(row, 8)),
+    )
 }
 
 // match TABLE ROOT LENGTH AT BYTE AT WORD ROOM COUNT..: matching with one byte of the twig and one word of the streams changed.
 pub fn matching(row: &[usize], words: &[u16]) {
-    let mut twig = TWIG;
-    put_byte(&mut twig, number(row, 4), octet(row, 5));
-    let mut s = streams(words);
-    put_word(&mut s, number(row, 6), half(row, 7));
-    let counts = [number(row, 9), number(row, 10), number(row, 11)];
     let was = [OLD; MATCH_ROOM];
     let mut out = [OLD; MATCH_ROOM];
-    let l = match_twig(
-        table(number(row, 1)),
-        octet(row, 2),
-        front_bytes(&twig, number(row, 3)),
-        front_numbers(&counts, std::num::wrapping_sub_usize(number(row, 0), 8)),
-        &s,
-        front_mut(&mut out, number(row, 8)),
-    );
+    let l = match_by(row, words, &mut out);
     let v = l.verdict;
     outcome(v, l.count, &out, &was);
 }
