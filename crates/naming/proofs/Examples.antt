@@ -1,13 +1,13 @@
--- The examples of pairs hold, and every refusal of a child-name file at its corner is what the paper says.
+-- The examples of names hold, and every refusal of a child-name file at its corner is what the paper says.
 use mathlib.Core.Path.{refl}
 use Rattle.basics.specs.Examples.{Hold}
-use Rattle.naming.specs.Examples.{pairChecks, fileRefusals}
+use Rattle.naming.specs.Examples.{nameChecks, fileRefusals}
 use Rattle.naming.proofs.Computing.{computing}
 
 -- the definitions give what the paper says
-pub pair-checks : Hold pairChecks
+pub name-checks : Hold nameChecks
 unfolding computing
-pair-checks = refl
+name-checks = refl
 
 -- the refusals of a child-name file have their numbers and places
 pub file-refusals : Hold fileRefusals

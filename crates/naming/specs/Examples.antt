@@ -30,8 +30,8 @@ unfoldable pub shortTable : List (List ℕ)
 shortTable = (1 ∷ filler ∷ []) ∷ (2 ∷ 5 ∷ filler ∷ []) ∷ (5 ∷ 3 ∷ 4 ∷ filler ∷ []) ∷ (4 ∷ filler ∷ []) ∷ []
 
 -- pairs, where a component leads, and root names
-unfoldable pub pairChecks : List Check
-pairChecks =
+unfoldable pub nameChecks : List Check
+nameChecks =
     -- a pair is parent, then child: below a test stand note, axle and curve
     is (children (pairs benchFile) 2) (5 ∷ 3 ∷ 4 ∷ [])
     -- below a test 4 leads to an axle
