@@ -4,7 +4,7 @@ ghost use mathlib.Core.Path.{_≡_};
 ghost use Rattle.labelling.specs.Labels.{decodeCall, kinshipCall, followsCall};
 ghost use Rattle.naming.specs.Names.{tableCheck};
 ghost use Rattle.patterns.specs.Twigs.{twigCheck};
-ghost use Rattle.patterns.specs.Matching.{matchCall};
+ghost use Rattle.match_calls.specs.Matching.{matchCall};
 ghost use Rattle.store_calls.specs.Updates as updates;
 ghost use Rattle.store_calls.specs.Cutting as cutting;
 ghost use Rattle.store_checks.specs.Stores.{storeCheck};

@@ -15,7 +15,7 @@ use Rattle.naming.specs.Names.{cluesOf}
 use Rattle.patterns.specs.Twigs.{readTwig, twigCheck, wanted, leafNames}
 use Rattle.patterns.specs.Matches.{matchWords}
 use Rattle.basics.specs.Outputs.{listed, roomCheck}
-use Rattle.patterns.specs.Matching.{labelsCheck, matchesOf, matchRefusal, matchCall}
+use Rattle.match_calls.specs.Matching.{labelsCheck, matchesOf, matchRefusal, matchCall}
 use Rattle.basics.proofs.Refusals.{first-here, first-rest, first-last, first-next}
 use Rattle.refusals.specs.Answers.{verdictOf, filled, refusedBy, listingOf}
 use Rattle.refusals.specs.declared.Listing.{Listing}

@@ -13,7 +13,7 @@ use Rattle.labelling.specs.Labels.{decodeCall, kinshipCall, followsCall, decode
 use Rattle.store_calls.specs.Updates.{delete, enter, newStore}
 use Rattle.basics.specs.Outputs.{listed}
 use Rattle.store_calls.specs.Cutting.{cut, cutRefusal}
-use Rattle.patterns.specs.Matching.{matchCall, matchRefusal}
+use Rattle.match_calls.specs.Matching.{matchCall, matchRefusal}
 use Rattle.model.specs.Demand1.{Demand1}
 use Rattle.basics.proofs.Refusals.{first-none, check-none, refused-is}
 use Rattle.naming.proofs.NameFiles.{read-refusal, refused-table, file-table, file-size, file-rows}

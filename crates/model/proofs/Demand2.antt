@@ -9,7 +9,7 @@ use Rattle.naming.specs.Names.{Clues, tableCheck, cluesOf}
 use Rattle.labelling.specs.Labels.{Label, above}
 use Rattle.patterns.specs.Twigs.{twigCheck, readTwig, wanted}
 use Rattle.storage.specs.Store.{rootOf, sizeCheck, soundCheck, elements, records}
-use Rattle.patterns.specs.Matching.{streamsCheck, dealt, matchCall, matchesOf}
+use Rattle.match_calls.specs.Matching.{streamsCheck, dealt, matchCall, matchesOf}
 use Rattle.model.specs.Trees.{namesTo}
 use Rattle.model.specs.Demand2.{Demand2, ListHolds, StoreHolds}
 use Rattle.basics.proofs.Lists.{for-cons}
@@ -22,7 +22,7 @@ use Rattle.patterns.proofs.MatchSizes.{match-words}
 use Rattle.storage.proofs.Sizes.{size-iff, length-elements-read}
 use Rattle.storage.proofs.Faults.{sound-check}
 use Rattle.storage.proofs.SoundStore.{store-elements, sound-root, sound-parents}
-use Rattle.patterns.proofs.StreamChecks.{streams-accepted, streams-labels}
+use Rattle.match_calls.proofs.StreamChecks.{streams-accepted, streams-labels}
 use Rattle.store_calls.proofs.StreamWords.{streams-sound}
 use Rattle.store_calls.proofs.Listings.{Stored, cut-listed, match-listed}
 use Rattle.basics.proofs.Outputs.{listed-whole, listed-refusal}

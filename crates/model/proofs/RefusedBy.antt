@@ -15,7 +15,7 @@ use Rattle.labelling.specs.Numbers.{number}
 use Rattle.labelling.specs.Labels.{Label, labelOf, Decoded, path, stuck, decode, labelCheck, pathCheck, decodeRefusal}
 use Rattle.basics.specs.Outputs.{roomCheck}
 use Rattle.patterns.specs.Twigs.{Twig, readTwig, nameCheck, nodeCheck, nodesCheck, twigCheck}
-use Rattle.patterns.specs.Matching.{streamsCheck, matchRefusal}
+use Rattle.match_calls.specs.Matching.{streamsCheck, matchRefusal}
 use Rattle.storage.specs.Store.{Element, sizeCheck, soundCheck}
 use Rattle.store_calls.specs.Updates.{parentCheck, spaceCheck, rootStaysCheck, foundCheck, newStoreRefusal, entryRefusal, deletionRefusal}
 use Rattle.store_calls.specs.Cutting.{cutRefusal}
@@ -24,7 +24,7 @@ use Rattle.model.specs.RefusedBy.{RefusedBy, placedNumbers, fileNumbers,
 use Rattle.basics.proofs.Tests.{and-iff, eqb-alike}
 use Rattle.basics.proofs.Lists.{stands-iff}
 use Rattle.labelling.proofs.Decode.{starts}
-use Rattle.patterns.proofs.StreamFacts.{streamsCheck-refused}
+use Rattle.match_calls.proofs.StreamFacts.{streamsCheck-refused}
 use Rattle.storage.proofs.Faults.{unsound-number}
 
 -- every refusal of a check has a property

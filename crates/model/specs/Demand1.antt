@@ -11,7 +11,7 @@ use Rattle.naming.specs.Names.{readNames, emptyTable, tableCheck}
 use Rattle.labelling.specs.Labels.{decodeCall, kinshipCall, followsCall}
 use Rattle.store_calls.specs.Updates.{newStore, enter, delete}
 use Rattle.store_calls.specs.Cutting.{cut}
-use Rattle.patterns.specs.Matching.{matchCall}
+use Rattle.match_calls.specs.Matching.{matchCall}
 use Rattle.printouts.specs.Printing.{printRefusal}
 use Rattle.model.specs.RefusedBy.{RefusedBy, fileNumbers, decodingNumbers, labelNumbers, newStoreNumbers, entryNumbers, deletionNumbers, cutNumbers, matchNumbers, printNumbers}
 

@@ -15,7 +15,7 @@ use Rattle.patterns.specs.Matches.{earlier, matches, Match, GoodStreams, IsMatc
 use Rattle.storage.specs.Store.{Element, elements, rootOf, sizeCheck, soundCheck}
 use Rattle.store_calls.specs.Cutting.{streams, stream, cut, Cuts, fullList, cutWords}
 use Rattle.basics.specs.Outputs.{Listing}
-use Rattle.patterns.specs.Matching.{streamsCheck, dealt, matchCall}
+use Rattle.match_calls.specs.Matching.{streamsCheck, dealt, matchCall}
 use Rattle.model.specs.Trees.{namesTo, Embedding}
 
 -- The list of matches over streams that matching takes.

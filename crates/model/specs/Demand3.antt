@@ -18,7 +18,7 @@ use Rattle.storage.specs.Store.{sizeCheck}
 use Rattle.store_calls.specs.Updates.{given, newStore}
 use Rattle.basics.specs.Outputs.{Listing}
 use Rattle.store_calls.specs.Cutting.{stream, cut, Cuts, fullList, cutWords}
-use Rattle.patterns.specs.Matching.{matchCall}
+use Rattle.match_calls.specs.Matching.{matchCall}
 use Rattle.model.specs.Book.{Line, Book, Call, entry, deletion, lineElement, lineAt, sooner, inOrder, bookElements, bookWords, bookRefusal, bookAfter, childLine, answer, Run, rootLine}
 use Rattle.model.specs.Trees.{Embedding}
 

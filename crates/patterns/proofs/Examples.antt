@@ -1,10 +1,10 @@
--- The examples of matching hold.
+-- The examples of twigs and of their matches hold.
 use mathlib.Core.Path.{refl}
 use Rattle.basics.specs.Examples.{Hold}
-use Rattle.patterns.specs.Examples.{matchChecks}
+use Rattle.patterns.specs.Examples.{patternChecks}
 use Rattle.patterns.proofs.Computing.{computing}
 
--- it answers and leaves what the paper says
-pub match-checks : Hold matchChecks
+-- the definitions give what the paper says
+pub pattern-checks : Hold patternChecks
 unfolding computing
-match-checks = refl
+pattern-checks = refl

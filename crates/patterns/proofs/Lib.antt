@@ -11,10 +11,6 @@ pub mod Paths
 pub mod Deltas
 pub mod MatchWords
 pub mod MatchSizes
--- Streams in a buffer.
-pub mod Buffers
-pub mod StreamChecks
-pub mod StreamFacts
 -- Examples.
 pub mod Computing
 pub mod Examples

@@ -1,15 +1,13 @@
--- Examples of matching: what it answers, and every word that it leaves.
-use mathlib.Core.List.{List, [], _∷_, _++_, map}
+-- Examples of twigs and of their matches.
+use mathlib.Core.List.{List, [], _∷_, map}
 use Prim.Native.Nat.{ℕ}
-use lib.ListN.{replicate}
 use Rattle.basics.specs.Basics.{joined}
-use Rattle.basics.specs.Outputs.{Listing}
-use Rattle.labelling.specs.Labels.{Label, same, labelWords}
-use Rattle.basics.specs.Examples.{Check, is, shown}
+use Rattle.basics.specs.Examples.{Check, is}
+use Rattle.naming.specs.Names.{cluesOf}
 use Rattle.naming.specs.Examples.{shortTable}
+use Rattle.labelling.specs.Labels.{Label, same, labelWords}
 use Rattle.patterns.specs.Twigs.{readTwig, wanted, leafNames}
-use Rattle.patterns.specs.Matches.{Match, matchWords, less}
-use Rattle.patterns.specs.Matching.{matchCall}
+use Rattle.patterns.specs.Matches.{Match, matches, matchWords, less}
 
 -- The printed example.
 
@@ -37,22 +35,20 @@ garageMatches =
 unfoldable pub inWords : List Label → List ℕ
 inWords ls = joined (map labelWords ls)
 
--- what matching under the bench's table answers and leaves, in one list
-unfoldable pub listedFor : List ℕ → List ℕ → List Label → List ℕ → List ℕ
-listedFor twig counts ls out = let a : Listing = matchCall shortTable 0 twig counts (inWords ls) out in shown (a .refusal) ++ (a .count ∷ a .output)
+-- the matches of a twig under the bench's table, in words, each record with its stream
+unfoldable pub matchedIn : List ℕ → List (List Label) → List ℕ
+matchedIn twig streams = matchWords (matches (cluesOf shortTable) 0 (readTwig twig) streams)
 
-unfoldable pub matchChecks : List Check
-matchChecks =
+unfoldable pub patternChecks : List Check
+patternChecks =
     -- the leaves are the axle and the curve
     is (leafNames (wanted (readTwig garageTwig))) (3 ∷ 4 ∷ [])
-    -- four matches, in order, and the words past them as they were
-    ∷ is (listedFor garageTwig (3 ∷ 2 ∷ []) (axles ++ curves) (replicate 200 7)) (4 ∷ (inWords (joined garageMatches) ++ replicate 8 7))
-    -- a label that stands twice in the second stream: 20 at 4, and nothing is written
-    ∷ is (listedFor garageTwig (3 ∷ 2 ∷ []) (axles ++ ((1 ∷ 0 ∷ 2 ∷ []) ∷ (1 ∷ 0 ∷ 2 ∷ []) ∷ [])) (7 ∷ [])) (20 ∷ 4 ∷ 0 ∷ 7 ∷ [])
+    -- four matches, in order
+    ∷ is (matchedIn garageTwig ([] ∷ axles ∷ curves ∷ [])) (inWords (joined garageMatches))
     -- 255 asks for any name, and record 0's edge 1 lets it be any element
-    ∷ is (listedFor (255 ∷ 1 ∷ 255 ∷ 0 ∷ []) (2 ∷ []) ([] ∷ (1 ∷ []) ∷ []) (replicate 32 7)) (2 ∷ inWords ([] ∷ (1 ∷ []) ∷ []))
+    ∷ is (matchedIn (255 ∷ 1 ∷ 255 ∷ 0 ∷ []) (([] ∷ (1 ∷ []) ∷ []) ∷ [])) (inWords ([] ∷ (1 ∷ []) ∷ []))
     -- its edge 0 ties it to the root element
-    ∷ is (listedFor (255 ∷ 0 ∷ 255 ∷ 0 ∷ []) (2 ∷ []) ([] ∷ (1 ∷ []) ∷ []) (replicate 16 7)) (1 ∷ inWords ([] ∷ []))
+    ∷ is (matchedIn (255 ∷ 0 ∷ 255 ∷ 0 ∷ []) (([] ∷ (1 ∷ []) ∷ []) ∷ [])) (inWords ([] ∷ []))
     -- less the matches that use a label
     ∷ is (matchWords (less (same (1 ∷ 0 ∷ 4 ∷ [])) garageMatches)) (inWords (
     (1 ∷ []) ∷ (1 ∷ 0 ∷ 1 ∷ []) ∷ (1 ∷ 0 ∷ 2 ∷ [])

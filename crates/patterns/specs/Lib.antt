@@ -1,7 +1,6 @@
--- Twigs, and the call that matches them.
+-- Twigs, and what a match is.
 pub mod Twigs
 pub mod Matches
-pub mod Matching
 -- Examples.
 pub mod Examples
 pub mod RefusalChecks

@@ -15,7 +15,7 @@ use Rattle.labelling.specs.Labels.{Label, labelWords}
 use Rattle.patterns.specs.Twigs.{Twig, nodeAt, isLeaf, wanted, leafNames}
 use Rattle.patterns.specs.Matches.{labelsWords}
 use Rattle.patterns.proofs.MatchWords.{length-labelsWords}
-use Rattle.patterns.proofs.StreamChecks.{length-wanted}
+use Rattle.match_calls.proofs.StreamChecks.{length-wanted}
 use Rattle.store_calls.proofs.StreamWords.{laid}
 use Rattle.leaves.proofs.Leaves.{wanted-at, wanted-from}
 

@@ -20,7 +20,7 @@ use Rattle.basics.proofs.Scans.{tail-is}
 use Rattle.patterns.proofs.TwigBytes.{twigCheck-iff, nameCheck-iff, readTwig-at, length-readTwig}
 use Rattle.storage.proofs.Sizes.{size-iff, length-elements-read}
 use Rattle.store_calls.proofs.StreamWords.{laid, length-stream}
-use Rattle.patterns.proofs.StreamChecks.{length-wanted}
+use Rattle.match_calls.proofs.StreamChecks.{length-wanted}
 use Rattle.patterns.proofs.MatchWords.{length-labelsWords}
 use Rattle.refusals.specs.Answers.{verdictOf, filled, refusedBy, listingOf}
 use Rattle.refusals.specs.declared.Listing.{Listing}

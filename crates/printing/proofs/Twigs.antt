@@ -19,7 +19,7 @@ use Rattle.patterns.specs.Matches.{labelsWords}
 use Rattle.storage.specs.Store.{readElement, elements, rootOf}
 use Rattle.basics.specs.Outputs.{roomCheck}
 use Rattle.store_calls.specs.Cutting.{fullList}
-use Rattle.patterns.specs.Matching.{matchesOf}
+use Rattle.match_calls.specs.Matching.{matchesOf}
 use Rattle.printouts.specs.Printing.{refusalText, bufferCheck}
 use Rattle.basics.proofs.Refusals.{check-passed}
 use Rattle.storage.proofs.Sizes.{size-iff, length-elements-read}

@@ -11,7 +11,7 @@ use Rattle.patterns.specs.Twigs.{readTwig, wanted, leafNames, twigCheck}
 use Rattle.patterns.specs.Matches.{labelsWords}
 use Rattle.storage.specs.Store.{elements, sizeCheck, soundCheck}
 use Rattle.store_calls.specs.Cutting.{stream, streams}
-use Rattle.patterns.specs.Matching.{streamsCheck}
+use Rattle.match_calls.specs.Matching.{streamsCheck}
 
 -- an accepted store: its table, its size and its records
 pub record Accepted (rows : List (List ℕ)) (ws : List ℕ) (count : ℕ) : Type 0 where

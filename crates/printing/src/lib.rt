@@ -28,7 +28,7 @@ ghost use Rattle.patterns.specs.Twigs.{twigCheck};
 ghost use Rattle.patterns.specs.Matches.{labelsWords};
 ghost use Rattle.storage.specs.Store.{sizeCheck};
 ghost use Rattle.basics.specs.Outputs.{roomCheck};
-ghost use Rattle.patterns.specs.Matching.{matchesOf};
+ghost use Rattle.match_calls.specs.Matching.{matchesOf};
 ghost use Rattle.printouts.specs.Printing as model;
 ghost use Rattle.refusals.specs.Answers.{verdictOf};
 ghost use Rattle.printing.specs.Texts.{Prints, told, printedBy, listPrinted, storeMatches, bufferChecks, storeChecks};

@@ -3,7 +3,7 @@ use Rattle.store_calls.specs.Updates.{newStoreRefusal, newStore, parentC
 use Rattle.store_calls.specs.Cutting.{stream, streams, fullList, cutRefusal, cut}
 use Rattle.store_calls.specs.RefusalChecks.{element, deepStore, usedUp, torn, newStoreRefusals, entryRefusals, deletionRefusals, cutRefusals}
 use Rattle.store_calls.specs.Examples.{benchStore, answered, updateChecks}
-use Rattle.patterns.proofs.Computing.{computing as patterns}
+use Rattle.match_calls.proofs.Computing.{computing as patterns}
 use Rattle.storage.proofs.Computing.{computing as records}
 
 -- `unfolding computing` opens them all

@@ -14,7 +14,7 @@ use Rattle.patterns.specs.Matches.{labelsWords, matchWords, matches}
 use Rattle.storage.specs.Store.{Element, soundCheck, elements, sizeCheck}
 use Rattle.basics.specs.Outputs.{listed, Listing, roomCheck}
 use Rattle.store_calls.specs.Cutting.{cut, Cuts, cutRefusal, cutWords, stream, fullList, streams}
-use Rattle.patterns.specs.Matching.{matchCall, matchRefusal, matchesOf}
+use Rattle.match_calls.specs.Matching.{matchCall, matchRefusal, matchesOf}
 use Rattle.basics.proofs.Refusals.{check-passed}
 use Rattle.patterns.proofs.MatchWords.{length-labelsWords}
 use Rattle.storage.proofs.Words.{Fit}

@@ -16,7 +16,7 @@ use Rattle.patterns.specs.Twigs.{Twig, wanted, leafNames}
 use Rattle.patterns.specs.Matches.{GoodStreams, fits, asks, labelsWords}
 use Rattle.storage.specs.Store.{Element}
 use Rattle.store_calls.specs.Cutting.{stream, streams}
-use Rattle.patterns.specs.Matching.{labelsIn, dealt, inStream, streamCheck, labelsCheck, streamsCheck}
+use Rattle.match_calls.specs.Matching.{labelsIn, dealt, inStream, streamCheck, labelsCheck, streamsCheck}
 use Rattle.basics.proofs.Tests.{and-iff, eqb-alike}
 use Rattle.basics.proofs.Lists.{here, there, for-map, keep-iff, keep-ascending, map-ascending, length-keep, keep-all}
 use Rattle.basics.proofs.Refusals.{check-passed, first-passed, last-passed}
@@ -24,7 +24,7 @@ use Rattle.labelling.proofs.LabelWords.{GoodLabel, labelOf-labelWords, labelWor
 use Rattle.patterns.proofs.MatchWords.{length-labelsWords}
 use Rattle.storage.proofs.Words.{Fit}
 use Rattle.storage.proofs.SoundStore.{SoundElements}
-use Rattle.patterns.proofs.StreamChecks.{GoodStream, Later, nothing-good, each-good, inStream-iff, streamCheck-next, length-wanted}
+use Rattle.match_calls.proofs.StreamChecks.{GoodStream, Later, nothing-good, each-good, inStream-iff, streamCheck-next, length-wanted}
 use Rattle.patterns.proofs.Asking.{asks-iff}
 
 -- the stream of 255 has the labels of all elements

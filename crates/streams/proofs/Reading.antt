@@ -17,10 +17,10 @@ use Rattle.basics.specs.Limits.{labelSize, maxDepth}
 use Rattle.basics.specs.Refusals.{refuse, badStream}
 use Rattle.naming.specs.Names.{Clues}
 use Rattle.labelling.specs.Labels.{shared, decode, isLabel}
-use Rattle.patterns.specs.Matching.{labelsIn, streamCheck}
+use Rattle.match_calls.specs.Matching.{labelsIn, streamCheck}
 use Rattle.basics.proofs.Tests.{is-true}
 use Rattle.labelling.proofs.LabelWords.{labelOf-good}
-use Rattle.patterns.proofs.StreamChecks.{inStream-iff, streamCheck-next, streamCheck-now}
+use Rattle.match_calls.proofs.StreamChecks.{inStream-iff, streamCheck-next, streamCheck-now}
 use Rattle.refusals.specs.Answers.{verdictOf}
 use Rattle.refusals.specs.declared.Verdict.{Verdict}
 use Rattle.refusals.specs.declared.Verdict.the-variants as verdict
@@ -30,7 +30,7 @@ use Rattle.streams.specs.Answers.{linkOf}
 use Rattle.streams.specs.declared.Link.{Link}
 use Rattle.streams.specs.declared.Link.the-variants as link
 use Rattle.streams.proofs.Streams.{along-root, length-shares, shares-at}
-use Rattle.patterns.proofs.Buffers.{length-labelsIn}
+use Rattle.match_calls.proofs.Buffers.{length-labelsIn}
 use Rattle.streams.proofs.Words.{labels-at, labels-before}
 use Rattle.streams.proofs.Links.{share-in}
 use Rattle.streams.proofs.Rows.{pasted-here, pasted-before}

@@ -11,8 +11,8 @@ use borrow.Author.Tests.{eq-eqb, ne-eqb}
 use Rattle.basics.specs.Basics.{elim?}
 use Rattle.basics.specs.Limits.{labelSize}
 use Rattle.labelling.specs.Labels.{Label, before, labelOf, isLabel}
-use Rattle.patterns.specs.Matching.{labelsIn}
-use Rattle.patterns.proofs.Buffers.{labelsIn-words}
+use Rattle.match_calls.specs.Matching.{labelsIn}
+use Rattle.match_calls.proofs.Buffers.{labelsIn-words}
 use Rattle.streams.specs.Streams.{wordsAt, labelAt, previousAt, labelBefore, Stood}
 
 -- the words of a label are lent as a part

@@ -22,7 +22,7 @@ ghost use lib.Seq.{paste};
 ghost use lib.Dec.{eqb};
 ghost use Rattle.naming.specs.Names.{cluesOf};
 ghost use Rattle.labelling.specs.Labels as model;
-ghost use Rattle.patterns.specs.Matching.{labelsIn, streamCheck};
+ghost use Rattle.match_calls.specs.Matching.{labelsIn, streamCheck};
 ghost use Rattle.clue_lengths.specs.Lens.{lensOf};
 ghost use Rattle.layouts.specs.Words as layout;
 ghost use Rattle.refusals.specs.Answers.{verdictOf};

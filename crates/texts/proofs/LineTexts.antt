@@ -9,7 +9,7 @@ use lib.ListN.{length, getD, take, drop, length-drop}
 use lib.Seq.{getD-drop, drop-drop}
 use Rattle.basics.specs.Limits.{maxDepth, labelSize}
 use Rattle.labelling.specs.Labels.{labelOf}
-use Rattle.patterns.specs.Matching.{labelsIn}
+use Rattle.match_calls.specs.Matching.{labelsIn}
 use Rattle.printouts.specs.Printing.{text, labelText, matchLine}
 use Rattle.labelling.proofs.LabelWords.{labelOf-take}
 use Rattle.basics.proofs.Scans.{tail-is}

@@ -10,7 +10,7 @@ use lib.ListN.{length, drop, length-drop}
 use lib.Seq.{drop-drop}
 use Rattle.basics.specs.Basics.{joined, over}
 use Rattle.basics.specs.Limits.{labelSize}
-use Rattle.patterns.specs.Matching.{labelsIn}
+use Rattle.match_calls.specs.Matching.{labelsIn}
 use Rattle.printouts.specs.Printing.{matchLine, matchesText}
 use Rattle.basics.proofs.Scans.{tail-is}
 use Rattle.words.specs.Writing.{written}

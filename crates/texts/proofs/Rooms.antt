@@ -11,12 +11,12 @@ use Rattle.basics.specs.Basics.{_∈_, joined}
 use Rattle.basics.specs.Limits.{maxDepth, labelSize}
 use Rattle.labelling.specs.Labels.{Label, labelOf}
 use Rattle.patterns.specs.Matches.{Match}
-use Rattle.patterns.specs.Matching.{labelsIn}
+use Rattle.match_calls.specs.Matching.{labelsIn}
 use Rattle.printouts.specs.Printing.{text, decimal, joinedBy, labelText, matchLine, matchesText}
 use Rattle.basics.proofs.Lists.{here, there, nowhere, for-cons, for-map, member-at}
 use Rattle.labelling.proofs.LabelWords.{labelOf-take}
 use Rattle.texts.specs.Texts.{numberLine, matchesIn, Depths, labelRoom, countRoom}
-use Rattle.patterns.proofs.Buffers.{length-labelsIn}
+use Rattle.match_calls.proofs.Buffers.{length-labelsIn}
 use Rattle.texts.proofs.Words.{length-matchesIn, depths-drop}
 use Rattle.texts.proofs.Digits.{decimal-short}
 use Rattle.texts.proofs.Joined.{tailed, joined-tailed}

@@ -4,7 +4,7 @@ use Prim.Native.Nat.{ℕ, zero, suc, _+_, _*_, _<_, _≤_}
 use lib.ListN.{getD, drop}
 use Rattle.basics.specs.Limits.{maxDepth, labelSize}
 use Rattle.patterns.specs.Matches.{Match}
-use Rattle.patterns.specs.Matching.{labelsIn}
+use Rattle.match_calls.specs.Matching.{labelsIn}
 use Rattle.printouts.specs.Printing.{text, decimal}
 
 -- a line with a number

@@ -7,7 +7,7 @@ ghost use lib.ListN.{length, getD};
 ghost use Rattle.basics.specs.Basics.{over};
 ghost use Rattle.basics.specs.Limits.{labelSize};
 ghost use Rattle.labelling.specs.Labels.{labelOf};
-ghost use Rattle.patterns.specs.Matching.{labelsIn};
+ghost use Rattle.match_calls.specs.Matching.{labelsIn};
 ghost use Rattle.printouts.specs.Printing.{zeroDigit, decimal, labelText, matchLine, matchesText, refusalText};
 ghost use Rattle.texts.specs.Texts.{numberLine, matchesIn, Depths, labelRoom, countRoom, refusalRoom};
 ghost use Rattle.words.specs.Writing.{written};

@@ -15,14 +15,14 @@ use Rattle.basics.specs.Limits.{labelSize, maxElements, anyName}
 use Rattle.basics.specs.Refusals.{Refusal, refuse, check, first, badStream}
 use Rattle.naming.specs.Names.{Clues}
 use Rattle.labelling.specs.Labels.{Label, before, labelOf, nameAt}
 use Rattle.patterns.specs.Twigs.{Twig, wanted, leafNames}
-use Rattle.patterns.specs.Matching.{inStream, streamCheck, labelsCheck, streamsCheck}
+use Rattle.match_calls.specs.Matching.{inStream, streamCheck, labelsCheck, streamsCheck}
 use Rattle.basics.proofs.Tests.{eqb-alike, decide}
 use Rattle.basics.proofs.Lists.{all-at}
 use Rattle.labelling.proofs.LabelWords.{IsLabel, isLabel-iff}
 use Rattle.basics.proofs.Refusals.{check-failed, check-passed, first-next, first-here}
 use Rattle.patterns.proofs.Asking.{fits-iff}
-use Rattle.patterns.proofs.StreamChecks.{Later, inStream-iff}
+use Rattle.match_calls.proofs.StreamChecks.{Later, inStream-iff}
 
 -- the facts that 15, 16, name and order ask of words in a stream, after the label before them
 pub record Stands (cl : Clues) (root want : ℕ) (previous : Option Label) (ws : List ℕ) : Type 0 where

@@ -1,0 +1,5 @@
+-- The call that matches streams.
+pub mod Matching
+-- Examples.
+pub mod Examples
+pub mod RefusalChecks
