@@ -29,7 +29,7 @@ use numbers::Number;
 use numbers::next_number;
 use refusals::Refusal;
 use table_checks::check_table;
-use twigs::check_twig;
+use twig_checks::check_twig;
 
 // The words of a label in a row, and more than that.
 const MANY_WORDS: usize = 20000;

@@ -27,5 +27,5 @@ pub fn check_store(table: &[u8], store: &[u16], count: usize, answer: &mut [usiz
 pub fn check_twig(twig: &[u8], answer: &mut [usize]) -> u8
     ensures { λ n. ⌜ report n (now (answer .exit)) ≡ reportOf (twigCheck (now (twig .entry))) 0 (now (answer .entry)) ⌝ }
 {
-    tell(twigs::check_twig(twig), 0, answer)
+    tell(twig_checks::check_twig(twig), 0, answer)
 }

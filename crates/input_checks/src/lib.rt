@@ -6,7 +6,7 @@ use refusals::Verdict;
 use refusals::refuse;
 use stream_counts::check_counts;
 use table_checks::table_check;
-use twigs::check_twig;
+use twig_checks::check_twig;
 ghost use mathlib.Core.Path.{_≡_};
 ghost use Rattle.refusals.specs.Answers.{verdictOf};
 ghost use Rattle.input_checks.specs.Inputs.{inputCheck};

@@ -15,7 +15,7 @@ use refusals::refuse;
 use store_checks::store_check;
 use texts::put_matches;
 use texts::put_refusal;
-use twigs::check_twig;
+use twig_checks::check_twig;
 use twigs::node_at;
 use twigs::node_count;
 ghost use mathlib.Core.Path.{_≡_};

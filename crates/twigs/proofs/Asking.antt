@@ -1,10 +1,22 @@
--- A name that is asked for, for each way out of the test of it.
-use Prim.Native.Nat.{ℕ}
+-- A name that may be asked for, and one that is, for each way out of the test of it.
+use Prim.Native.Nat.{ℕ, _<_, _≤_}
 use mathlib.Core.Path.{_≡_}
-use lib.Dec.{eqb}
-use borrow.Author.Tests.{eq-eqb, ne-eqb}
-use Rattle.basics.specs.Limits.{anyName}
+use mathlib.Core.Bool.{_||_}
+use lib.Dec.{leb, eqb}
+use borrow.Author.Tests.{eq-eqb, ne-eqb, le-leb, lt-leb}
+use Rattle.basics.specs.Limits.{maxName, anyName}
+use Rattle.naming.specs.Names.{isName}
 use Rattle.patterns.specs.Matches.{asks}
+
+-- a name may be asked for
+pub asked-name : (want : ℕ) → want ≤ maxName → leb want maxName ≡ (isName want || eqb want anyName)
+unfolding isName
+asked-name want h = rw (le-leb _ _ h)
+
+-- a higher number only if it is 255
+pub asked-high : (want : ℕ) → maxName < want → eqb want anyName ≡ (isName want || eqb want anyName)
+unfolding isName
+asked-high want h = rw (lt-leb _ _ h)
 
 -- 255 asks for any name
 pub asks-any : (want name : ℕ) → want ≡ anyName → eqb want anyName ≡ asks want name

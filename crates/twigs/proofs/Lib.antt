@@ -1,4 +1,3 @@
--- The bytes and the records, then the checks and the name asked for.
+-- The bytes and the records, then the name asked for.
 pub mod Nodes
-pub mod Checks
 pub mod Asking

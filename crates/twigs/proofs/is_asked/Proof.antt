@@ -1,6 +1,6 @@
 -- `twigs::is_asked` meets its contract: a name, or 255.
 use borrow.Author.Needs.{needs}
-use Rattle.twigs.proofs.Checks.{asked-name, asked-high}
+use Rattle.twigs.proofs.Asking.{asked-name, asked-high}
 use Rattle.twigs.proofs.is_asked.Statement.{statement}
 use Rattle.twigs.proofs.is_asked.Tie as tie
 

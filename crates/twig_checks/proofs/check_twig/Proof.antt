@@ -1,13 +1,13 @@
--- `twigs::check_twig` meets its contract: what is left of the check is the check of the records left.
+-- `twig_checks::check_twig` meets its contract: what is left of the check is the check of the records left.
 use Prim.Native.Nat.{_≤_, _-_}
 use mathlib.Core.Path.{_≡_}
 use borrow.Author.Needs.{needs}
 use lib.ListN.{length}
 use Rattle.patterns.specs.Twigs.{readTwig}
 use Rattle.twigs.proofs.Nodes.{node-bytes}
-use Rattle.twigs.proofs.Checks.{Checked, length-refused, node-refused, checked-on, twig-passed}
-use Rattle.twigs.proofs.check_twig.Statement.{statement}
-use Rattle.twigs.proofs.check_twig.Tie as tie
+use Rattle.twig_checks.proofs.Checks.{Checked, length-refused, node-refused, checked-on, twig-passed}
+use Rattle.twig_checks.proofs.check_twig.Statement.{statement}
+use Rattle.twig_checks.proofs.check_twig.Tie as tie
 
 abbrev Inv-loop : tie.InvT-loop
 Inv-loop twig n q₀ q = (n ≡ length (readTwig twig)) × (q ≤ n) × Checked twig q

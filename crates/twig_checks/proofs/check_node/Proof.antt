@@ -1,8 +1,8 @@
--- `twigs::check_node` meets its contract: 5, 6, 7 and 8 in turn.
+-- `twig_checks::check_node` meets its contract: 5, 6, 7 and 8 in turn.
 use borrow.Author.Needs.{needs}
-use Rattle.twigs.proofs.Checks.{parent-refused, edge-refused, name-refused, end-refused, node-passed}
-use Rattle.twigs.proofs.check_node.Statement.{statement}
-use Rattle.twigs.proofs.check_node.Tie as tie
+use Rattle.twig_checks.proofs.Checks.{parent-refused, edge-refused, name-refused, end-refused, node-passed}
+use Rattle.twig_checks.proofs.check_node.Statement.{statement}
+use Rattle.twig_checks.proofs.check_node.Tie as tie
 
 pub check-node-spec : {M : Type 1} → statement M
 check-node-spec =

@@ -10,7 +10,7 @@ use native.Mathlib.Omega.{arith}
 use lib.ListN.{length, getD, drop, length-drop}
 use lib.Dec.{ltb, leb, eqb}
 use borrow.Author.Tests.{eq-eqb, ne-eqb, lt-ltb, le-leb, lt-leb, not-true, not-false}
-use Rattle.basics.specs.Limits.{nodeSize, maxTwig, maxName, anyName, noParent}
+use Rattle.basics.specs.Limits.{nodeSize, maxTwig, anyName, noParent}
 use Rattle.basics.specs.Refusals.{Refusal, refuse, check, first, twigLength, twigParent, twigEdge, nameAsked, twigEnd}
 use Rattle.naming.specs.Names.{isName}
 use Rattle.patterns.specs.Twigs.{childEdge, descendantEdge, nodeAt, readTwig, parentFits, nameCheck, nodeCheck, nodesCheck, twigCheck}
@@ -21,8 +21,9 @@ use Rattle.refusals.specs.declared.Refusal as declared
 use Rattle.refusals.specs.declared.Verdict.{Verdict}
 use Rattle.refusals.specs.declared.Verdict.the-variants as verdict
 use Rattle.refusals.proofs.Verdicts.{passed-none, refused-some}
 use Rattle.twigs.specs.declared.Node.{Node}
-use Rattle.twigs.specs.Answers.{nodeOf, nodeCheckAt}
+use Rattle.twigs.specs.Answers.{nodeOf}
+use Rattle.twig_checks.specs.Answers.{nodeCheckAt}
 
 module _ (n : ℕ) where
   -- no bytes
@@ -55,16 +56,6 @@ edge-child e h = rw (eq-eqb _ _ h)
 -- another only to a descendant
 pub edge-other : (e : ℕ) → (e ≡ childEdge → ⊥) → eqb e descendantEdge ≡ (eqb e childEdge || eqb e descendantEdge)
 edge-other e h = rw (ne-eqb _ _ h)
-
--- a name may be asked for
-pub asked-name : (want : ℕ) → want ≤ maxName → leb want maxName ≡ (isName want || eqb want anyName)
-unfolding isName
-asked-name want h = rw (le-leb _ _ h)
-
--- a higher number only if it is 255
-pub asked-high : (want : ℕ) → maxName < want → eqb want anyName ≡ (isName want || eqb want anyName)
-unfolding isName
-asked-high want h = rw (lt-leb _ _ h)
 
 -- the check of the fourth byte of record q
 endCheck : List ℕ → ℕ → Option Refusal
