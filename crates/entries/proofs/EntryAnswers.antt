@@ -23,9 +23,10 @@ use Rattle.records.specs.Records.{recordAt}
 use Rattle.lookup.specs.declared.Found.{Found}
 use Rattle.lookup.specs.declared.Found.the-variants as found
 use Rattle.lookup.specs.Places.{placeAt, foundOf}
-use Rattle.entries.specs.declared.Entry.{Entry}
 use Rattle.changes.specs.Answers.{callCheck}
-use Rattle.entries.specs.Answers.{Entered, entered, entryOf, refusedEntry, childAnswer, childAdded, enteredBelow}
+use Rattle.additions.specs.declared.Entry.{Entry}
+use Rattle.additions.specs.Answers.{Entered, entered, refusedEntry, childAnswer, childAdded}
+use Rattle.entries.specs.Answers.{entryOf, enteredBelow}
 use Rattle.changes.proofs.InUse.{find-absent, find-found, parent-read, parent-label, label-high}
 use Rattle.entries.proofs.Entries.{enter-words}
 use Rattle.changes.proofs.Checks.{found-label, found-absent, call-refused, call-passed, call-sound, checks-passed}

@@ -32,10 +32,11 @@ use Rattle.numbers.specs.declared.Number.{Number}
 use Rattle.numbers.specs.declared.Number.the-variants as number
 use Rattle.records.specs.Records.{recordAt}
 use Rattle.records.proofs.Parts.{record-word, record-label, record-long}
-use Rattle.entries.specs.declared.Entry.{Entry}
+use Rattle.additions.specs.declared.Entry.{Entry}
+use Rattle.additions.specs.Answers.{Entered, entered, refusedEntry, childAdded}
 use Rattle.entries.specs.declared.Gift.{Gift}
 use Rattle.entries.specs.declared.Gift.the-variants as gift
-use Rattle.entries.specs.Answers.{Entered, entered, refusedEntry, giftBy, giftOf, childAdded, enteredBelow}
+use Rattle.entries.specs.Answers.{giftBy, giftOf, enteredBelow}
 
 -- a number that was given
 number-given : (y : ℕ) {x : ℕ} {r : Number} → r ≡ numberOf y → r ≡ number.Given x → (x ≡ y) × (y ≤ maxComponent)

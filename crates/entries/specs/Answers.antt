@@ -1,41 +1,22 @@
 -- What the answers of the code tell, by the definitions of `storage`.
-use Prim.Native.Nat.{ℕ, _+_, _*_}
-use mathlib.Core.Bool.{true}
-use mathlib.Core.List.{List, [], _∷_, _++_}
+use Prim.Native.Nat.{ℕ}
+use mathlib.Core.List.{List}
 use mathlib.Core.Option.{Option, none, some}
-use lib.ListN.{length, set, replicate}
 use Rattle.basics.specs.Basics.{elim?}
-use Rattle.basics.specs.Limits.{labelSize, recordSize, nextWord}
 use Rattle.naming.specs.Names.{Clues}
-use Rattle.labelling.specs.Labels.{Label, labelWords}
+use Rattle.labelling.specs.Labels.{Label}
 use Rattle.basics.specs.Refusals.{Refusal}
-use Rattle.storage.specs.Store.{Element, elementWords, readElement, elements}
+use Rattle.storage.specs.Store.{Element, readElement}
 use Rattle.store_calls.specs.Updates as model
 use Rattle.refusals.specs.Answers.{refusalOf, verdictOf}
-use Rattle.refusals.specs.declared.Verdict.{Verdict}
 use Rattle.records.specs.Records.{recordAt}
-use Rattle.moving.specs.Moves.{inserted}
-use Rattle.lookup.specs.Places.{passes, leading}
-use Rattle.entries.specs.declared.Entry.{Entry}
+use Rattle.additions.specs.Answers.{Entered, entered, refusedEntry, childAdded}
 use Rattle.entries.specs.declared.Gift.{Gift}
 use Rattle.entries.specs.declared.Gift.the-variants as gift
-
--- what an entry answers, beside the words it leaves
-pub record Entered : Type 0 where
-  pub answer : Entry
-  pub words : List ℕ
-
--- an answer and the words left
-abbrev pub entered : Entry → List ℕ → Entered
-entered r ws = record { answer = r; words = ws }
 
 -- what an entry answers and leaves
 abbrev pub entryOf : model.Answer → Entered
 entryOf a = entered (record { verdict = verdictOf (a .refusal); count = a .count; label = a .label }) (a .slice)
-
--- an entry refused: the count as it was and sixteen zeros
-abbrev pub refusedEntry : Verdict → ℕ → Entry
-refusedEntry v count = record { verdict = v; count = count; label = replicate labelSize 0 }
 
 -- a number, unless there is a refusal
 abbrev pub giftBy : Option Refusal → ℕ → Gift
@@ -45,25 +26,6 @@ giftBy (some r) x = gift.Refused (refusalOf r)
 -- what a parent gives a child with a name
 abbrev pub giftOf : Clues → Element → ℕ → Gift
 giftOf cl p name = giftBy (model.parentCheck cl (some p) name) (model.given cl p name)
-
--- a child's element: its parent's label and a number, f = 0
-abbrev pub childElement : Label → ℕ → ℕ → ℕ → ℕ → Element
-childElement l x name p0 p1 = record { label = l ++ (x ∷ []); name = name; next = 0; payload0 = p0; payload1 = p1 }
-
--- the words with the next number of the record a raised and a record put in behind the subtree of its label l
-abbrev pub childWritten : List ℕ → ℕ → ℕ → Label → ℕ → List ℕ → List ℕ
-childWritten ws count a l x rec = inserted (set ws (a * recordSize + nextWord) (x + 1)) (leading (passes true l) (elements count ws)) count rec
-
--- a child with a number added below the record a, which has the label l
-abbrev pub childAnswer : List ℕ → ℕ → ℕ → Label → ℕ → ℕ → ℕ → ℕ → Entered
-childAnswer ws count a l x name p0 p1 =
-    entered (record { verdict = verdictOf none; count = count + 1; label = labelWords (l ++ (x ∷ [])) })
-    (childWritten ws count a l x (elementWords (childElement l x name p0 p1)))
-
--- the same, or 13
-unfoldable pub childAdded : List ℕ → ℕ → ℕ → Label → ℕ → ℕ → ℕ → ℕ → Entered
-childAdded ws count a l x name p0 p1 =
-    elim? (model.spaceCheck (length ws) count) (childAnswer ws count a l x name p0 p1) (λ r. entered (refusedEntry (verdictOf (some r)) count) ws)
 
 -- an entry below the record a, which has the label l: 10, 11, 12, or the child added with the number given
 unfoldable pub enteredBelow : Clues → List ℕ → ℕ → ℕ → Label → ℕ → ℕ → ℕ → Entered

@@ -5,9 +5,10 @@ use mathlib.Core.Path.{_≡_, ap, _∙_}
 use mathlib.Core.List.{List}
 use Rattle.store_calls.specs.Updates as updates
 use Rattle.changes.specs.Answers.{Changed, changed, changeOf}
-use Rattle.entries.specs.Answers.{Entered, entered, entryOf}
+use Rattle.additions.specs.Answers.{Entered, entered}
+use Rattle.entries.specs.Answers.{entryOf}
 use Rattle.changes.specs.declared.Change.{Change}
-use Rattle.entries.specs.declared.Entry.{Entry}
+use Rattle.additions.specs.declared.Entry.{Entry}
 use Rattle.table_bytes.specs.Rows.{tableIn}
 use Rattle.answers.specs.Reports.{fitted, Report, reportBy}
 use Rattle.answers.proofs.Verdicts.{told-check}

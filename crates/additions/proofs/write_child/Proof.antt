@@ -1,9 +1,9 @@
--- `entries::write_child` meets its contract: the next number raised, the record put in behind the subtree.
+-- `additions::write_child` meets its contract: the next number raised, the record put in behind the subtree.
 use borrow.Author.Needs.{needs}
 use Rattle.changes.proofs.InUse.{end-used}
-use Rattle.entries.proofs.Additions.{written-length, written-room, child-written}
-use Rattle.entries.proofs.write_child.Statement.{statement}
-use Rattle.entries.proofs.write_child.Tie as tie
+use Rattle.additions.proofs.Additions.{written-length, written-room, child-written}
+use Rattle.additions.proofs.write_child.Statement.{statement}
+use Rattle.additions.proofs.write_child.Tie as tie
 
 pub write-child-spec : {M : Type 1} → statement M
 write-child-spec =

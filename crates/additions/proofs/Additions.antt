@@ -19,10 +19,10 @@ use Rattle.refusals.proofs.Verdicts.{passed-none, refused-some}
 use Rattle.records.specs.Records.{recordAt}
 use Rattle.moving.specs.Moves.{inserted}
 use Rattle.lookup.specs.Places.{placeAt, passes, leading}
-use Rattle.entries.specs.declared.Entry.{Entry}
-use Rattle.entries.specs.Answers.{entered, refusedEntry, childWritten, childAdded}
+use Rattle.additions.specs.declared.Entry.{Entry}
+use Rattle.additions.specs.Answers.{entered, refusedEntry, childWritten, childAdded}
 use Rattle.changes.proofs.InUse.{label-high}
-use Rattle.entries.proofs.Children.{label-depth}
+use Rattle.additions.proofs.Children.{label-depth}
 
 module _ (ws : List ℕ) (i f : ℕ) where
   -- a word written changes no length

@@ -1,9 +1,9 @@
--- `entries::add_child` meets its contract: 13, else the child's label and record.
+-- `additions::add_child` meets its contract: 13, else the child's label and record.
 use borrow.Author.Needs.{needs}
 use Rattle.changes.proofs.InUse.{place-used}
-use Rattle.entries.proofs.Additions.{depth-high, add-refused, add-room, add-done}
-use Rattle.entries.proofs.add_child.Statement.{statement}
-use Rattle.entries.proofs.add_child.Tie as tie
+use Rattle.additions.proofs.Additions.{depth-high, add-refused, add-room, add-done}
+use Rattle.additions.proofs.add_child.Statement.{statement}
+use Rattle.additions.proofs.add_child.Tie as tie
 
 pub add-child-spec : {M : Type 1} → statement M
 add-child-spec =

@@ -1,8 +1,8 @@
--- `entries::child_label` meets its contract: the parent's words copied, two of them written.
+-- `additions::child_label` meets its contract: the parent's words copied, two of them written.
 use borrow.Author.Needs.{needs}
-use Rattle.entries.proofs.Children.{label-sixteen, label-child}
-use Rattle.entries.proofs.child_label.Statement.{statement}
-use Rattle.entries.proofs.child_label.Tie as tie
+use Rattle.additions.proofs.Children.{label-sixteen, label-child}
+use Rattle.additions.proofs.child_label.Statement.{statement}
+use Rattle.additions.proofs.child_label.Tie as tie
 
 pub child-label-spec : {M : Type 1} → statement M
 child-label-spec =
