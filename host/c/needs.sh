@@ -19,12 +19,22 @@ need() {
     command -v "$command" >/dev/null || stop "Debian's $* has brought no $command"
 }
 
-# The library, built where it is missing or older than its sources, from the repository's root.
+# The library, built where it is missing or older than its sources, from the repository's root: the archives of the crates with calls for C, joined.
 library=target/staticlib/libhost.a
+library_crates='host_tables host_checks host_labels host_stores host_lists'
 need_library() {
+    local crate log=target/log/staticlib.log
     [ -f "$library" ] && [ -z "$(find crates crates.txt -newer "$library" -print -quit)" ] && return
     command -v rt >/dev/null || stop "$library is missing or old, and there is no rt to build it"
+    need ar binutils
     mkdir -p target/log
-    rt staticlib host >target/log/staticlib.log 2>&1 || { tail -20 target/log/staticlib.log >&2; stop 'rt staticlib host has failed'; }
-    [ -f "$library" ] || stop "rt staticlib host has left no $library"
+    rm -f "$library"
+    for crate in $library_crates; do
+        rt staticlib "$crate" >"$log" 2>&1 || { tail -20 "$log" >&2; stop "rt staticlib $crate has failed"; }
+    done
+    {
+        echo "create $library"
+        printf "addlib ${library%/*}/lib%s.a\n" $library_crates
+        echo save
+    } | ar -M >"$log" 2>&1 || { cat "$log" >&2; stop "$library can't be joined"; }
 }

@@ -13,7 +13,14 @@ ghost use Rattle.answers.specs.Reports.{fitted, report, reportOf};
 ghost use Rattle.host_labels.specs.Calls.{kinshipReport, followsReport};
 
 // The names that a label decodes to, sixteen of them: 22, 21, 15, 16. A refusal gives zeros.
-pub fn decode(table: &[u8], root: u8, label: &[u16], names: &mut [u8], answer: &mut [usize]) -> u8
+#[no_mangle]
+pub extern "C" fn jiszteruk_decode(
+    table: &[u8],
+    root: u8,
+    label: &[u16],
+    names: &mut [u8],
+    answer: &mut [usize],
+) -> u8
     ensures told { λ n. ⌜ report n (now (answer .exit)) ≡ reportOf (decodeCall (tableIn (now (table .entry))) root (now (label .entry)) .refusal) 0 (now (answer .entry)) ⌝ }
     ensures named { λ n. ⌜ now (names .exit) ≡ fitted (decodeCall (tableIn (now (table .entry))) root (now (label .entry)) .names) (now (names .entry)) ⌝ }
 {
@@ -25,7 +32,8 @@ pub fn decode(table: &[u8], root: u8, label: &[u16], names: &mut [u8], answer: &
 }
 
 // Kinship of a first label to a second: 15. The value is 0 to 5, 0 in a refusal.
-pub fn kinship(first: &[u16], second: &[u16], answer: &mut [usize]) -> u8
+#[no_mangle]
+pub extern "C" fn jiszteruk_kinship(first: &[u16], second: &[u16], answer: &mut [usize]) -> u8
     ensures { λ n. ⌜ report n (now (answer .exit)) ≡ kinshipReport (kinshipCall (now (first .entry)) (now (second .entry))) (now (answer .entry)) ⌝ }
 {
     let kin = kinship::kinship(first, second);
@@ -43,7 +51,8 @@ fn number_of(yes: bool) -> usize
 }
 
 // Whether a first label follows a second: 15. The value is 1 for yes, 0 for no and in a refusal.
-pub fn follows(first: &[u16], second: &[u16], answer: &mut [usize]) -> u8
+#[no_mangle]
+pub extern "C" fn jiszteruk_follows(first: &[u16], second: &[u16], answer: &mut [usize]) -> u8
     ensures { λ n. ⌜ report n (now (answer .exit)) ≡ followsReport (followsCall (now (first .entry)) (now (second .entry))) (now (answer .entry)) ⌝ }
 {
     let after = kinship::follows(first, second);

@@ -9,7 +9,8 @@ ghost use Rattle.answers.specs.Reports.{report};
 ghost use Rattle.host_lists.specs.Calls.{listingReport};
 
 // The stream of a name, or of all for 255: 22, 18, 19, 7, 17. The value is how many labels it has.
-pub fn cut(
+#[no_mangle]
+pub extern "C" fn jiszteruk_cut(
     table: &[u8],
     store: &[u16],
     count: usize,
@@ -26,7 +27,8 @@ pub fn cut(
 }
 
 // All matches of a twig over the streams of its leaves: 22, 21, 4 to 8, 20, 17. The value is how many there are.
-pub fn match_twig(
+#[no_mangle]
+pub extern "C" fn jiszteruk_match(
     table: &[u8],
     root: u8,
     twig: &[u8],

@@ -9,7 +9,8 @@ ghost use Rattle.answers.specs.Reports.{fitted, report};
 ghost use Rattle.host_stores.specs.Calls.{changeReport};
 
 // A new store: 18, 21. The value is the count.
-pub fn new_store(
+#[no_mangle]
+pub extern "C" fn jiszteruk_new_store(
     store: &mut [u16],
     root: u8,
     payload0: u16,
@@ -25,7 +26,8 @@ pub fn new_store(
 }
 
 // An entry: 22, 18, 19, 15, 9, 10, 11, 12, 13. The value is the count; the new label is sixteen words, zeros in a refusal.
-pub fn enter(
+#[no_mangle]
+pub extern "C" fn jiszteruk_enter(
     table: &[u8],
     store: &mut [u16],
     count: usize,
@@ -55,7 +57,8 @@ pub fn enter(
 }
 
 // A deletion of the element with a label and of all below it: 22, 18, 19, 15, 14, 9. The value is the count.
-pub fn delete(
+#[no_mangle]
+pub extern "C" fn jiszteruk_delete(
     table: &[u8],
     store: &mut [u16],
     count: usize,

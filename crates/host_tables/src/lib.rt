@@ -10,7 +10,8 @@ ghost use Rattle.answers.specs.Reports.{report};
 ghost use Rattle.host_tables.specs.Calls.{readReport, tableRead, benchNumber, benchBytes};
 
 // The table of a child-name file, written to an output: 22, 1, 2, 3. A refused file gives a table of empty clues.
-pub fn read_names(file: &[u8], table: &mut [u8], answer: &mut [usize]) -> u8
+#[no_mangle]
+pub extern "C" fn jiszteruk_read_names(file: &[u8], table: &mut [u8], answer: &mut [usize]) -> u8
     ensures told { λ n. ⌜ report n (now (answer .exit)) ≡ readReport (now (file .entry)) (now (table .entry)) (now (answer .entry)) ⌝ }
     ensures written { λ n. ⌜ now (table .exit) ≡ tableRead (now (file .entry)) (now (table .entry)) ⌝ }
 {
@@ -23,7 +24,8 @@ pub fn read_names(file: &[u8], table: &mut [u8], answer: &mut [usize]) -> u8
 }
 
 // The bench's own table: 22.
-pub fn bench_table(table: &mut [u8]) -> u8
+#[no_mangle]
+pub extern "C" fn jiszteruk_bench_table(table: &mut [u8]) -> u8
     ensures number { λ n. ⌜ n ≡ benchNumber (now (table .entry)) ⌝ }
     ensures written { λ n. ⌜ now (table .exit) ≡ benchBytes (now (table .entry)) ⌝ }
 {
