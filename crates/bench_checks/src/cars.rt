@@ -5,12 +5,12 @@ use crate::stores::counted;
 use crate::stores::same;
 use crate::stores::spot;
 use case_lines::half;
-use guards::behind;
-use guards::front;
 use guards::number;
 use guards::word;
 use labels::Label;
+use prefixes::front;
 use records::Store;
+use suffixes::behind;
 
 // The label of record r.
 pub fn label_of(words: &[u16], r: usize) -> &[u16] {

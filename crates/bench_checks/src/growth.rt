@@ -11,11 +11,11 @@ use case_lines::octet;
 use case_lines::sum;
 use deletions::delete;
 use entries::enter;
-use guards::copy;
-use guards::front;
-use guards::front_mut;
 use guards::number;
 use name_files::bench_table;
+use prefixes::copy;
+use prefixes::front;
+use prefixes::front_mut;
 
 // What is shown of the entries: the last label, the first and the last, or all of them.
 const LAST: usize = 1;

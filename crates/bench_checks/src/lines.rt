@@ -27,9 +27,9 @@ use case_lines::ROW;
 use case_lines::bar_of;
 use case_lines::read_row;
 use case_lines::sum;
-use guards::behind_bytes;
 use guards::byte;
-use guards::front_bytes;
+use prefixes::front_bytes;
+use suffixes::behind_bytes;
 
 const NEWLINE: u8 = 10;
 

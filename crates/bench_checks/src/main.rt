@@ -8,8 +8,8 @@ mod row;
 mod show;
 mod stores;
 
-use guards::front_bytes;
 use lines::lines;
+use prefixes::front_bytes;
 use stores::LARGEST;
 
 fn main() {

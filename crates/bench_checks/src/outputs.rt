@@ -8,18 +8,18 @@ use crate::stores::outcome;
 use case_lines::half;
 use case_lines::octet;
 use cutting::cut;
-use guards::behind;
-use guards::behind_mut;
-use guards::front;
-use guards::front_bytes;
-use guards::front_mut;
-use guards::front_numbers;
 use guards::number;
 use guards::put_byte;
 use guards::put_word;
 use labels::Label;
 use matching::match_twig;
+use prefixes::front;
+use prefixes::front_bytes;
+use prefixes::front_mut;
+use prefixes::front_numbers;
 use refusals::Listing;
+use suffixes::behind;
+use suffixes::behind_mut;
 
 // The words of an output with room for a label more than nine, and of one with a word more than four matches.
 const LABEL_ROOM: usize = 160;

@@ -11,17 +11,17 @@ use case_lines::octet;
 use case_lines::sum;
 use deletions::delete;
 use entries::enter;
-use guards::behind;
-use guards::copy;
-use guards::front;
-use guards::front_mut;
 use guards::number;
 use guards::put_word;
 use guards::word;
 use new_stores::new_store;
+use prefixes::copy;
+use prefixes::front;
+use prefixes::front_mut;
 use records::Store;
 use refusals::Verdict;
 use store_checks::check_store;
+use suffixes::behind;
 
 // The words of 4,098 records.
 pub const LARGEST: usize = 81960;

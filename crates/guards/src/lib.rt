@@ -1,8 +1,6 @@
-// Guards on slices, for the programs that test: a place that is not there reads as 0 and is left alone, and a part is cut where the slice ends.
+// Guards on the places of slices, for the programs that test: a place that is not there reads as 0 and is left alone.
 ghost use mathlib.Core.Path.{_≡_};
-ghost use lib.ListN.{length, getD, set, take, drop};
-ghost use Rattle.basics.specs.Basics.{over};
-use words::overwrite;
+ghost use lib.ListN.{getD, set};
 
 // The word at a place.
 pub fn word(words: &[u16], at: usize) -> u16
@@ -62,82 +60,4 @@ pub fn put_number(numbers: &mut [usize], at: usize, x: usize)
         return;
     }
     numbers[at] = x;
-}
-
-// The first words of a slice; all where there are fewer.
-pub fn front(words: &[u16], len: usize) -> &[u16]
-    ensures { λ r. ⌜ now r ≡ take len (now (words .entry)) ⌝ }
-{
-    if words.len() < len {
-        return words;
-    }
-    &words[0..len]
-}
-
-// The first words of a slice, to be changed.
-pub fn front_mut(words: &mut [u16], len: usize) -> &mut [u16]
-    ensures { λ r. ⌜ now r ≡ take len (now (words .entry)) ⌝ }
-{
-    if words.len() < len {
-        return words;
-    }
-    &mut words[0..len]
-}
-
-// The words of a slice from a place on; none where it is not there.
-pub fn behind(words: &[u16], at: usize) -> &[u16]
-    ensures { λ r. ⌜ now r ≡ drop at (now (words .entry)) ⌝ }
-{
-    if words.len() < at {
-        return &words[0..0];
-    }
-    &words[at..]
-}
-
-// The words of a slice from a place on, to be changed.
-pub fn behind_mut(words: &mut [u16], at: usize) -> &mut [u16]
-    ensures { λ r. ⌜ now r ≡ drop at (now (words .entry)) ⌝ }
-{
-    if words.len() < at {
-        return &mut words[0..0];
-    }
-    &mut words[at..]
-}
-
-// The first bytes of a slice; all where there are fewer.
-pub fn front_bytes(bytes: &[u8], len: usize) -> &[u8]
-    ensures { λ r. ⌜ now r ≡ take len (now (bytes .entry)) ⌝ }
-{
-    if bytes.len() < len {
-        return bytes;
-    }
-    &bytes[0..len]
-}
-
-// The bytes of a slice from a place on; none where it is not there.
-pub fn behind_bytes(bytes: &[u8], at: usize) -> &[u8]
-    ensures { λ r. ⌜ now r ≡ drop at (now (bytes .entry)) ⌝ }
-{
-    if bytes.len() < at {
-        return &bytes[0..0];
-    }
-    &bytes[at..]
-}
-
-// The first numbers of a slice; all where there are fewer.
-pub fn front_numbers(numbers: &[usize], len: usize) -> &[usize]
-    ensures { λ r. ⌜ now r ≡ take len (now (numbers .entry)) ⌝ }
-{
-    if numbers.len() < len {
-        return numbers;
-    }
-    &numbers[0..len]
-}
-
-// Words copied over the front of others, as many as there is room for.
-pub fn copy(to: &mut [u16], from: &[u16])
-    ensures { λ u. ⌜ now (to .exit) ≡ over (take (length (now (to .entry))) (now (from .entry))) (now (to .entry)) ⌝ }
-{
-    let room = to.len();
-    overwrite(to, front(from, room));
 }

@@ -1,13 +1,13 @@
 // Three files in memory, each in an area of its own: two bytes tell the file's length, and its own bytes follow.
 use case_lines::octet;
 use case_lines::sum;
-use guards::behind_bytes;
 use guards::byte;
-use guards::front_bytes;
 use guards::number;
 use guards::put_byte;
 use name_files::BENCH_PAIRS;
+use prefixes::front_bytes;
 use records::Store;
+use suffixes::behind_bytes;
 
 // Where the area of names.tab begins, ..
 pub const NAMES: usize = 0;

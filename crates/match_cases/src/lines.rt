@@ -15,10 +15,10 @@ use case_lines::ROW;
 use case_lines::bar_of;
 use case_lines::read_row;
 use case_lines::sum;
-use guards::behind_bytes;
 use guards::byte;
-use guards::front_bytes;
 use guards::number;
+use prefixes::front_bytes;
+use suffixes::behind_bytes;
 
 // The files changed as a letter says.
 fn change(letter: u8, row: &[usize], files: &mut [u8]) {

@@ -4,8 +4,8 @@ mod lines;
 mod show;
 
 use files::AREAS;
-use guards::front_bytes;
 use lines::lines;
+use prefixes::front_bytes;
 
 fn main() {
     let mut text = io::large_buffer();

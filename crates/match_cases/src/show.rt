@@ -4,11 +4,11 @@ use crate::files::STORE;
 use crate::files::TWIG;
 use crate::files::file;
 use case_lines::sum;
-use guards::behind_bytes;
 use guards::byte;
-use guards::front_bytes;
+use prefixes::front_bytes;
 use printing::TEXT_BYTES;
 use printing::print_matches;
+use suffixes::behind_bytes;
 
 // The byte that ends a line.
 pub const NEWLINE: u8 = 10;

@@ -8,13 +8,13 @@ use crate::twig_parts::RECORD_BYTES;
 use crate::twig_parts::children;
 use crate::twig_parts::part;
 use cutting::cut;
-use guards::behind_mut;
 use guards::put_number;
 use guards::put_word;
 use guards::word;
 use labels::Label;
 use names::Table;
 use records::Store;
+use suffixes::behind_mut;
 
 // The words of the streams of eight leaves, each of 240 labels.
 pub const BUFFER_WORDS: usize = 30720;

@@ -17,9 +17,9 @@ use crate::twig_making::MADE_BYTES;
 use crate::twig_making::make_twig;
 use crate::twig_parts::MAX_RECORDS;
 use crate::twig_parts::RECORD_BYTES;
-use guards::front;
-use guards::front_bytes;
 use names::Table;
+use prefixes::front;
+use prefixes::front_bytes;
 use records::Store;
 
 // How many twigs are asked of each store: as many of each size.

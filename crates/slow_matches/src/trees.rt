@@ -2,9 +2,6 @@
 use crate::random::roll;
 use deletions::delete;
 use entries::enter;
-use guards::behind;
-use guards::copy;
-use guards::front;
 use guards::word;
 use labels::Label;
 use names::Child;
@@ -13,7 +10,10 @@ use names::TABLE_SIZE;
 use names::Table;
 use names::child_of;
 use new_stores::new_store;
+use prefixes::copy;
+use prefixes::front;
 use records::Store;
+use suffixes::behind;
 
 // The words of a store of 240 records.
 pub const STORE_WORDS: usize = 4800;

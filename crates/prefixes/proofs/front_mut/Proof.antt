@@ -1,8 +1,8 @@
--- `guards::front_mut` meets its contract: the first of fewer are all.
+-- `prefixes::front_mut` meets its contract: the first of fewer are all.
 use borrow.Author.Needs.{needs}
-use Rattle.guards.proofs.Guarded.{all-taken, part-front}
-use Rattle.guards.proofs.front_mut.Statement.{statement}
-use Rattle.guards.proofs.front_mut.Tie as tie
+use Rattle.prefixes.proofs.Prefixes.{all-taken, part-front}
+use Rattle.prefixes.proofs.front_mut.Statement.{statement}
+use Rattle.prefixes.proofs.front_mut.Tie as tie
 
 pub front-mut-spec : {M : Type 1} → statement M
 front-mut-spec =

@@ -1,8 +1,8 @@
--- `guards::front_numbers` meets its contract: the first of fewer are all.
+-- `prefixes::front_numbers` meets its contract: the first of fewer are all.
 use borrow.Author.Needs.{needs}
-use Rattle.guards.proofs.Guarded.{all-taken, part-front}
-use Rattle.guards.proofs.front_numbers.Statement.{statement}
-use Rattle.guards.proofs.front_numbers.Tie as tie
+use Rattle.prefixes.proofs.Prefixes.{all-taken, part-front}
+use Rattle.prefixes.proofs.front_numbers.Statement.{statement}
+use Rattle.prefixes.proofs.front_numbers.Tie as tie
 
 pub front-numbers-spec : {M : Type 1} → statement M
 front-numbers-spec =

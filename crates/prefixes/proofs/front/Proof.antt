@@ -1,8 +1,8 @@
--- `guards::front` meets its contract: the first of fewer are all.
+-- `prefixes::front` meets its contract: the first of fewer are all.
 use borrow.Author.Needs.{needs}
-use Rattle.guards.proofs.Guarded.{all-taken, part-front}
-use Rattle.guards.proofs.front.Statement.{statement}
-use Rattle.guards.proofs.front.Tie as tie
+use Rattle.prefixes.proofs.Prefixes.{all-taken, part-front}
+use Rattle.prefixes.proofs.front.Statement.{statement}
+use Rattle.prefixes.proofs.front.Tie as tie
 
 pub front-spec : {M : Type 1} → statement M
 front-spec =

@@ -1,8 +1,8 @@
--- `guards::front_bytes` meets its contract: the first of fewer are all.
+-- `prefixes::front_bytes` meets its contract: the first of fewer are all.
 use borrow.Author.Needs.{needs}
-use Rattle.guards.proofs.Guarded.{all-taken, part-front}
-use Rattle.guards.proofs.front_bytes.Statement.{statement}
-use Rattle.guards.proofs.front_bytes.Tie as tie
+use Rattle.prefixes.proofs.Prefixes.{all-taken, part-front}
+use Rattle.prefixes.proofs.front_bytes.Statement.{statement}
+use Rattle.prefixes.proofs.front_bytes.Tie as tie
 
 pub front-bytes-spec : {M : Type 1} → statement M
 front-bytes-spec =
