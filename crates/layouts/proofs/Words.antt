@@ -1,14 +1,13 @@
 -- The words of a label: each by its place, by the largest that it may be, and several together.
-use Prim.Native.Nat.{ℕ, zero, suc, _+_, _-_, _%_, _^_, _<_, _≤_}
-use mathlib.Core.Path.{_≡_, refl, sym, ap, subst, _∙_}
-use mathlib.Core.Bool.{Bool, true, false, cond, _||_}
+use Prim.Native.Nat.{ℕ, zero, suc, _+_, _-_, _<_, _≤_}
+use mathlib.Core.Path.{_≡_, refl, sym, subst, _∙_}
+use mathlib.Core.Bool.{Bool, true, false}
 use mathlib.Core.List.{List}
 use mathlib.Core.Logic.{by-cases}
 use native.Mathlib.Decide.{decLt}
-use native.Mathlib.Nat.{mod-eq-of-lt}
 use native.Mathlib.Numerals.{add-one}
 use native.Mathlib.Omega.{arith}
-use lib.Bits.{bitAnd, bitOr, and-mask, and-zero-r}
+use lib.Bits.{bitOr}
 use lib.ListN.{getD, getD-replicate}
 use lib.Seq.{getD-take, getD-drop}
 use lib.Dec.{T, eqb, leb}
@@ -16,7 +15,7 @@ use borrow.Author.Tests.{eq-eqb, ne-eqb, le-leb, lt-leb}
 use Rattle.basics.specs.Limits.{maxComponent, maxDepth, labelSize}
 use Rattle.labelling.specs.Labels.{isComponent}
 use Rattle.basics.proofs.Tests.{is-true, and-iff, or-zero}
-use Rattle.layouts.specs.Words.{wordFits, largestWords, restFits, unusedWords, wordsFit}
+use Rattle.layouts.specs.Words.{wordFits, largestWords, wordsFit}
 
 -- a word by its place
 module _ (depth w x : ℕ) where
@@ -29,20 +28,6 @@ module _ (depth w x : ℕ) where
   pub word-unused : depth < w → eqb x 0 ≡ wordFits depth w x
   unfolding wordFits
   word-unused h = rw (lt-leb w depth h)
-
-  -- a word that fits is 0 where it is unused
-  pub rest-of : wordFits depth w x ≡ true → restFits depth w x ≡ true
-  unfolding wordFits restFits
-  rest-of = go (leb w depth)
-    where
-      go : (b : Bool) → cond b (isComponent x) (eqb x 0) ≡ true → (b || eqb x 0) ≡ true
-      go true e = refl
-      go false e = e
-
-  -- an unused word that is 0 fits
-  pub fit-of-rest : depth < w → restFits depth w x ≡ true → wordFits depth w x ≡ true
-  unfolding wordFits restFits
-  fit-of-rest h = rw (lt-leb w depth h) (λ e. e)
 
 -- ---- by the largest that it may be
 
@@ -69,29 +54,6 @@ module _ {largest : List ℕ} (told : largest ≡ largestWords) (depth w x : ℕ
   word-within h = by-cases (decLt depth w)
       (λ l. sym (eq-eqb x 0 (omega (arith, unused-entry l))) ∙ word-unused depth w x l)
       (λ l. let used : w ≤ depth = omega arith in sym (le-leb x maxComponent (omega (arith, used-entry used))) ∙ word-used depth w x used)
-
--- ---- by the bits that count where only the unused components are looked at
-
-module _ {unused : List ℕ} (told : unused ≡ unusedWords) (depth w x : ℕ) (deep : depth ≤ maxDepth) (low : w < labelSize) where
-  -- no bit of a used component counts
-  used-bits : w ≤ depth → getD unused (w + maxDepth - depth) 0 ≡ 0
-  used-bits h =
-      rw told (sym (getD-take labelSize unusedWords (w + maxDepth - depth) 0 (omega arith)) ∙ getD-replicate labelSize (w + maxDepth - depth) 0 0 (omega arith))
-
-  -- every bit of an unused one does
-  unused-bits : depth < w → getD unused (w + maxDepth - depth) 0 ≡ 65535
-  unused-bits h =
-      let behind : w + maxDepth - depth ≡ labelSize + (w - suc depth) = omega arith in
-      rw (told, behind) (sym (getD-drop labelSize unusedWords (w - suc depth) 0) ∙ getD-replicate labelSize (w - suc depth) 65535 0 (omega arith))
-
-  -- a word has none of the bits that count exactly where it is used or 0
-  pub rest-bits : x < 65536 → eqb (bitAnd x (getD unused (w + maxDepth - depth) 0)) 0 ≡ restFits depth w x
-  unfolding restFits
-  rest-bits small = by-cases (decLt depth w)
-      (λ l.
-      let whole : x % 2 ^ 16 ≡ x = mod-eq-of-lt small in
-      rw (unused-bits l, lt-leb w depth l) (ap (λ y. eqb y 0) (and-mask x 16 ∙ whole)))
-      (λ l. let used : w ≤ depth = omega arith in rw (used-bits used, le-leb w depth used) (ap (λ y. eqb y 0) (and-zero-r x)))
 
 -- ---- several together
 

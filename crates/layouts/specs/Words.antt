@@ -1,5 +1,5 @@
 -- Labels as they lie in sixteen words: each word by the depth.
-use mathlib.Core.Bool.{Bool, true, cond, _&&_, _||_}
+use mathlib.Core.Bool.{Bool, true, cond, _&&_}
 use mathlib.Core.List.{List, _++_}
 use Prim.Native.Nat.{ℕ, zero, suc, _+_}
 use lib.ListN.{getD, replicate}
@@ -14,14 +14,6 @@ wordFits depth w x = cond (leb w depth) (isComponent x) (eqb x 0)
 -- the largest that each word of a label may be, from place 15 - depth on
 abbrev pub largestWords : List ℕ
 largestWords = replicate labelSize maxComponent ++ replicate labelSize 0
-
--- word w of a label of some depth, where only the unused components are looked at: 0 behind the used ones
-unfoldable pub restFits : ℕ → ℕ → ℕ → Bool
-restFits depth w x = leb w depth || eqb x 0
-
--- the bits of each word that count there, from place 15 - depth on
-abbrev pub unusedWords : List ℕ
-unusedWords = replicate labelSize 0 ++ replicate labelSize 65535
 
 -- n words from a place of a slice on fit, each by its number
 unfoldable pub wordsFit : (ℕ → ℕ → Bool) → List ℕ → ℕ → ℕ → Bool

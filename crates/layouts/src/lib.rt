@@ -59,64 +59,6 @@ fn misfit(largest: &[u16; 32], depth: usize, w: usize, word: u16) -> u16
     }
 }
 
-// The bits that count of each word of a label where only the unused components are looked at, from place 15 - depth on: none of a used one, all of an unused one.
-pub const UNUSED: [u16; 32] = [
-    0,
-    0,
-    0,
-    0,
-    0,
-    0,
-    0,
-    0,
-    0,
-    0,
-    0,
-    0,
-    0,
-    0,
-    0,
-    0,
-    65535,
-    65535,
-    65535,
-    65535,
-    65535,
-    65535,
-    65535,
-    65535,
-    65535,
-    65535,
-    65535,
-    65535,
-    65535,
-    65535,
-    65535,
-    65535,
-];
-
-// The bits of word w of a label that must not be there: all of an unused component, none of a used one.
-fn unused_bits(unused: &[u16; 32], depth: usize, w: usize, word: u16) -> u16
-    requires { ⌜ (now unused ≡ layout.unusedWords) × (depth ≤ maxDepth) × (w < labelSize) ⌝ }
-    ensures { λ m. ⌜ eqb m 0 ≡ layout.restFits depth w word ⌝ }
-{
-    word & unused[w + Label::MAX_DEPTH - depth]
-}
-
-// The unused components of a label that stands at a place of a slice are 0.
-pub fn rest_zero(unused: &[u16; 32], store: &[u16], at: usize, depth: usize) -> bool
-    requires { ⌜ (now unused ≡ layout.unusedWords) × (at + labelSize ≤ length (now store)) × (depth ≤ maxDepth) ⌝ }
-    ensures { λ b. ⌜ b ≡ layout.wordsFit (layout.restFits depth) (now (store .entry)) at labelSize ⌝ }
-{
-    let mut any: u16 = 0;
-    let mut w: usize = 0;
-    while w < Label::WORDS {
-        any |= unused_bits(unused, depth, w, store[at + w]);
-        w += 1;
-    }
-    any == 0
-}
-
 // The lesser of two numbers.
 fn lesser(x: usize, y: usize) -> usize
     ensures { λ r. ⌜ r ≡ min x y ⌝ }

@@ -15,9 +15,11 @@ use Rattle.storage.specs.Store.{laidOut}
 use Rattle.basics.proofs.Tests.{is-true, is-false}
 use Rattle.records.specs.Records.{recordAt}
 use Rattle.records.proofs.Parts.{record-word, record-depth}
-use Rattle.layouts.specs.Words.{wordFits, restFits, wordsFit}
-use Rattle.layouts.proofs.Words.{word-used, rest-of, fit-of-rest, words-each, words-all}
+use Rattle.layouts.specs.Words.{wordFits, wordsFit}
+use Rattle.layouts.proofs.Words.{word-used, words-each, words-all}
 use Rattle.layouts.proofs.Fits.{fits-label, label-fits}
+use Rattle.padding.specs.Padding.{restFits}
+use Rattle.padding.proofs.Padding.{rest-of, fit-of-rest}
 use Rattle.record_rules.specs.Rules.{Laid, depthFits}
 use Rattle.record_rules.proofs.Depths.{fitting-depth}
 

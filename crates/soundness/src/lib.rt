@@ -2,10 +2,10 @@
 use clue_lengths::clue_lens;
 use clue_lengths::lens_slice;
 use labels::Label;
-use layouts::UNUSED;
-use layouts::rest_zero;
 use layouts::shared_part;
 use names::Table;
+use padding::UNUSED;
+use padding::rest_zero;
 use record_rules::Check;
 use record_rules::Rule;
 use record_rules::record_rules;

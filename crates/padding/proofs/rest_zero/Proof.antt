@@ -1,13 +1,14 @@
--- `layouts::rest_zero` meets its contract: the words before the index, all together.
+-- `padding::rest_zero` meets its contract: the words before the index, all together.
 use Prim.Native.Nat.{_-_, _≤_}
 use mathlib.Core.Path.{_≡_}
 use borrow.Author.Needs.{needs}
 use lib.Dec.{eqb}
 use Rattle.basics.specs.Limits.{labelSize}
-use Rattle.layouts.specs.Words.{restFits, wordsFit}
+use Rattle.layouts.specs.Words.{wordsFit}
 use Rattle.layouts.proofs.Words.{words-start, words-on, words-end}
-use Rattle.layouts.proofs.rest_zero.Statement.{statement}
-use Rattle.layouts.proofs.rest_zero.Tie as tie
+use Rattle.padding.specs.Padding.{restFits}
+use Rattle.padding.proofs.rest_zero.Statement.{statement}
+use Rattle.padding.proofs.rest_zero.Tie as tie
 
 abbrev Inv-loop : tie.InvT-loop
 Inv-loop unused store at depth any₀ w₀ any w = (w ≤ labelSize) × (eqb any 0 ≡ wordsFit (restFits depth) store at w)
