@@ -5,8 +5,6 @@ use crate::show::refusal;
 use crate::show::say;
 use crate::show::say_number;
 use crate::show::verdict;
-use case_lines::half;
-use case_lines::octet;
 use decoding::decode;
 use guards::byte;
 use guards::number;
@@ -30,6 +28,8 @@ use prefixes::front_bytes;
 use refusals::Refusal;
 use table_checks::check_table;
 use twig_checks::check_twig;
+use wrapping::half;
+use wrapping::octet;
 
 // The words of a label in a row, and more than that.
 const MANY_WORDS: usize = 20000;

@@ -4,13 +4,13 @@ use crate::show::say_number;
 use crate::stores::counted;
 use crate::stores::same;
 use crate::stores::spot;
-use case_lines::half;
 use guards::number;
 use guards::word;
 use labels::Label;
 use prefixes::front;
 use records::Store;
 use suffixes::behind;
+use wrapping::half;
 
 // The label of record r.
 pub fn label_of(words: &[u16], r: usize) -> &[u16] {

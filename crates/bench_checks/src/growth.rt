@@ -6,9 +6,6 @@ use crate::show::say;
 use crate::show::say_number;
 use crate::stores::count_of;
 use case_lines::ROW;
-use case_lines::half;
-use case_lines::octet;
-use case_lines::sum;
 use deletions::delete;
 use entries::enter;
 use guards::number;
@@ -16,6 +13,9 @@ use name_files::bench_table;
 use prefixes::copy;
 use prefixes::front;
 use prefixes::front_mut;
+use wrapping::half;
+use wrapping::octet;
+use wrapping::sum;
 
 // What is shown of the entries: the last label, the first and the last, or all of them.
 const LAST: usize = 1;

@@ -26,10 +26,10 @@ use crate::stores::value;
 use case_lines::ROW;
 use case_lines::bar_of;
 use case_lines::read_row;
-use case_lines::sum;
 use guards::byte;
 use prefixes::front_bytes;
 use suffixes::behind_bytes;
+use wrapping::sum;
 
 const NEWLINE: u8 = 10;
 

@@ -5,8 +5,6 @@ use crate::show::say;
 use crate::show::say_number;
 use crate::stores::count_of;
 use crate::stores::outcome;
-use case_lines::half;
-use case_lines::octet;
 use cutting::cut;
 use guards::number;
 use guards::put_byte;
@@ -20,6 +18,8 @@ use prefixes::front_numbers;
 use refusals::Listing;
 use suffixes::behind;
 use suffixes::behind_mut;
+use wrapping::half;
+use wrapping::octet;
 
 // The words of an output with room for a label more than nine, and of one with a word more than four matches.
 const LABEL_ROOM: usize = 160;

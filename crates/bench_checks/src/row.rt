@@ -1,10 +1,10 @@
 // What the numbers of a row stand for.
-use case_lines::half;
-use case_lines::sum;
 use guards::put_word;
 use name_files::bench_table;
 use name_files::read_names;
 use names::Table;
+use wrapping::half;
+use wrapping::sum;
 
 // Some numbers of a row put over the front of words; what is not in the row is 0.
 pub fn put_words(row: &[usize], from: usize, many: usize, words: &mut [u16]) {

@@ -1,8 +1,8 @@
 // What the checks print.
-use case_lines::sum;
 use guards::word;
 use refusals::Refusal;
 use refusals::Verdict;
+use wrapping::sum;
 
 // Text as it is.
 pub fn say(text: &[u8]) {

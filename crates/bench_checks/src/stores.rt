@@ -6,9 +6,6 @@ use crate::show::dotted;
 use crate::show::say;
 use crate::show::say_number;
 use crate::show::verdict;
-use case_lines::half;
-use case_lines::octet;
-use case_lines::sum;
 use deletions::delete;
 use entries::enter;
 use guards::number;
@@ -22,6 +19,9 @@ use records::Store;
 use refusals::Verdict;
 use store_checks::check_store;
 use suffixes::behind;
+use wrapping::half;
+use wrapping::octet;
+use wrapping::sum;
 
 // The words of 4,098 records.
 pub const LARGEST: usize = 81960;

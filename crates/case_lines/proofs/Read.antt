@@ -8,7 +8,8 @@ use lib.ListN.{length, getD, set, drop, drop-of-length-le}
 use borrow.Author.Tests.{eq-eqb, ne-eqb, lt-ltb, le-ltb, not-true, not-false}
 use lib.Dec.{leb}
 use Rattle.basics.proofs.Scans.{from-cons}
-use Rattle.case_lines.specs.Lines.{barOf, digit, wrapped, behindDigits, placeOf, withDigit, withByte, rowOf}
+use Rattle.wrapping.specs.Wrapping.{wrapped}
+use Rattle.case_lines.specs.Lines.{barOf, digit, behindDigits, placeOf, withDigit, withByte, rowOf}
 
 -- a byte below 48 is no digit
 pub below-digits : (b : ℕ) → b < 48 → false ≡ digit b

@@ -1,20 +1,10 @@
 -- A line of a file of cases: where its bar stands, and its numbers.
 use mathlib.Core.Bool.{Bool, false, cond}
 use mathlib.Core.List.{List, [], _∷_}
-use Prim.Native.Nat.{ℕ, suc, _+_, _*_, _%_, _^_}
+use Prim.Native.Nat.{ℕ, suc, _*_, _%_}
 use lib.ListN.{getD, set}
 use lib.Dec.{eqb, leb, ltb}
-
--- the sum of two numbers of a machine word, which wraps
-abbrev pub wrapped : ℕ → ℕ → ℕ
-wrapped a b = (a + b) % 2 ^ 64
-
--- the number at a place of a row as a word, and as a byte
-abbrev pub wordAt : List ℕ → ℕ → ℕ
-wordAt row i = getD row i 0 % 65536
-
-abbrev pub byteAt : List ℕ → ℕ → ℕ
-byteAt row i = getD row i 0 % 256
+use Rattle.wrapping.specs.Wrapping.{wrapped}
 
 -- where the first bar of a line stands; its end where there is none
 unfoldable pub barOf : List ℕ → ℕ

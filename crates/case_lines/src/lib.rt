@@ -2,9 +2,10 @@
 ghost use mathlib.Core.Path.{_≡_};
 ghost use mathlib.Core.Bool.{false};
 ghost use lib.ListN.{drop};
-ghost use Rattle.case_lines.specs.Lines.{wrapped, wordAt, byteAt, barOf, digit, placeOf, withByte, rowOf};
+ghost use Rattle.case_lines.specs.Lines.{barOf, digit, placeOf, withByte, rowOf};
 use guards::number;
 use guards::put_number;
+use wrapping::sum;
 
 // The places of a row: how many numbers a line has, and the numbers.
 pub const ROW: usize = 40;
@@ -17,27 +18,6 @@ const NINE: u8 = 57;
 
 // A number below this has room for one digit more.
 const ROOM: usize = 1844674407370955161;
-
-// The sum of two numbers; it wraps.
-pub fn sum(a: usize, b: usize) -> usize
-    ensures { λ r. ⌜ r ≡ wrapped a b ⌝ }
-{
-    std::num::wrapping_add_usize(a, b)
-}
-
-// A number of a row as a word.
-pub fn half(row: &[usize], i: usize) -> u16
-    ensures { λ r. ⌜ r ≡ wordAt (now (row .entry)) i ⌝ }
-{
-    (number(row, i) % 65536) as u16
-}
-
-// A number of a row as a byte.
-pub fn octet(row: &[usize], i: usize) -> u8
-    ensures { λ r. ⌜ r ≡ byteAt (now (row .entry)) i ⌝ }
-{
-    (number(row, i) % 256) as u8
-}
 
 // Where the bar of a line stands; its end where there is none.
 pub fn bar_of(line: &[u8]) -> usize

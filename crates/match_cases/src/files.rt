@@ -1,6 +1,4 @@
 // Three files in memory, each in an area of its own: two bytes tell the file's length, and its own bytes follow.
-use case_lines::octet;
-use case_lines::sum;
 use guards::byte;
 use guards::number;
 use guards::put_byte;
@@ -8,6 +6,8 @@ use name_files::BENCH_PAIRS;
 use prefixes::front_bytes;
 use records::Store;
 use suffixes::behind_bytes;
+use wrapping::octet;
+use wrapping::sum;
 
 // Where the area of names.tab begins, ..
 pub const NAMES: usize = 0;

@@ -14,11 +14,11 @@ use crate::show::title;
 use case_lines::ROW;
 use case_lines::bar_of;
 use case_lines::read_row;
-use case_lines::sum;
 use guards::byte;
 use guards::number;
 use prefixes::front_bytes;
 use suffixes::behind_bytes;
+use wrapping::sum;
 
 // The files changed as a letter says.
 fn change(letter: u8, row: &[usize], files: &mut [u8]) {

@@ -3,12 +3,12 @@ use crate::files::NAMES;
 use crate::files::STORE;
 use crate::files::TWIG;
 use crate::files::file;
-use case_lines::sum;
 use guards::byte;
 use prefixes::front_bytes;
 use printing::TEXT_BYTES;
 use printing::print_matches;
 use suffixes::behind_bytes;
+use wrapping::sum;
 
 // The byte that ends a line.
 pub const NEWLINE: u8 = 10;
