@@ -1,7 +1,4 @@
--- Masks gathered and filled, then the places of labels.
-pub mod Gathering
-pub mod Spans
-pub mod Depths
+-- Masks filled, then those of whole labels.
 pub mod Filling
+pub mod Depths
 pub mod Labels
-pub mod Places
