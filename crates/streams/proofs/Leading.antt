@@ -18,7 +18,7 @@ use Rattle.names.specs.declared.Child.{Child}
 use Rattle.names.specs.declared.Child.the-variants as child
 use Rattle.names.proofs.Children.{child-name, child-nowhere}
 use Rattle.streams.specs.Streams.{Along, leadsOn}
-use Rattle.streams.proofs.Streams.{along-name}
+use Rattle.streams.proofs.Along.{along-name}
 
 module _ (cl : Clues) (root : ℕ) (l : Label) (j : ℕ) (ns : List ℕ) (along : Along cl root (take j l) ns) where
   module _ (h : length l ≤ j) where

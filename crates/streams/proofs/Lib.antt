@@ -1,7 +1,5 @@
--- What callers may use of shares and paths, then the words of a stream, names led on and written, one label, the whole stream.
-pub mod Streams
+-- What callers may use of the names along a label, then the words of a stream, names led on, one label.
+pub mod Along
 pub mod Words
 pub mod Leading
-pub mod Rows
 pub mod Links
-pub mod Reading

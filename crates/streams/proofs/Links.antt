@@ -17,7 +17,7 @@ use Rattle.labelling.proofs.Kinship.{shared-alike, shared-low, shared-comm}
 use Rattle.streams.specs.Streams.{Along, leadsOn, wordsAt, labelAt, previousAt, labelBefore, standsAt}
 use Rattle.streams.specs.Answers.{linkOf}
 use Rattle.streams.specs.declared.Link.the-variants as link
-use Rattle.streams.proofs.Streams.{along-front, along-fits}
+use Rattle.streams.proofs.Along.{along-front, along-fits}
 
 -- the part shared is one of the second label
 pub share-in : (l m : Label) {s : ℕ} → s ≡ shared l m → s ≤ length m

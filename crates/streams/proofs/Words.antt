@@ -1,18 +1,16 @@
 -- The labels of a stream in its words: what each way out of the code on one of them tells.
-use Prim.Native.Nat.{ℕ, zero, suc, _+_, _-_, _*_, _<_, _≤_}
+use Prim.Native.Nat.{ℕ, zero, suc, _+_, _-_, _*_, _≤_}
 use mathlib.Core.Path.{_≡_, refl, ap, _∙_}
 use mathlib.Core.Bool.{Bool, true, _||_}
-use mathlib.Core.List.{List, [], _∷_}
+use mathlib.Core.List.{List, []}
 use native.Mathlib.Omega.{arith}
-use lib.ListN.{length, getD, take, drop, length-drop}
+use lib.ListN.{length, take, drop, length-drop}
 use lib.Seq.{length-take-le}
 use lib.Dec.{eqb}
 use borrow.Author.Tests.{eq-eqb, ne-eqb}
 use Rattle.basics.specs.Basics.{elim?}
 use Rattle.basics.specs.Limits.{labelSize}
 use Rattle.labelling.specs.Labels.{Label, before, labelOf, isLabel}
-use Rattle.match_calls.specs.Matching.{labelsIn}
-use Rattle.match_calls.proofs.Buffers.{labelsIn-words}
 use Rattle.streams.specs.Streams.{wordsAt, labelAt, previousAt, labelBefore, Stood}
 
 -- the words of a label are lent as a part
@@ -48,14 +46,3 @@ later-first i l m e = rw (eq-eqb _ _ e)
 -- another one is asked for its order
 pub later-other : (i : ℕ) (l m : Label) → (i ≡ 0 → ⊥) → {b : Bool} → b ≡ before l m → b ≡ (eqb i 0 || before l m)
 later-other i l m n e = rw (ne-eqb _ _ n) e
-
--- label i of them is that of its words
-pub labels-at : (n : ℕ) (ws : List ℕ) (i : ℕ) → i < n → getD (labelsIn n ws) i [] ≡ labelAt i ws
-unfolding wordsAt
-labels-at = labelsIn-words
-
--- so is the one before it
-pub labels-before : (n : ℕ) (ws : List ℕ) (i : ℕ) → i < n → getD ([] ∷ labelsIn n ws) i [] ≡ labelBefore i ws
-unfolding labelBefore previousAt elim?
-labels-before n ws zero h = refl
-labels-before n ws (suc i) h = labels-at n ws i (omega arith)

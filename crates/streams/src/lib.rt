@@ -1,33 +1,24 @@
-// Streams: the check of one stream of labels, in one pass that decodes only what changed from label to label.
+// Streams: one label of a stream, read behind the one before it, of which only what changed is decoded.
 use clue_lengths::clue_len_of;
 use label_order::ordered;
 use labels::Label;
 use labels::components;
-use layouts::LARGEST;
 use layouts::laid_out;
 use layouts::shared_part;
 use names::Child;
 use names::Table;
 use names::child_among;
-use refusals::Refusal;
-use refusals::Verdict;
-use refusals::refuse;
 use twigs::asks;
 ghost use mathlib.Core.Path.{_≡_};
 ghost use mathlib.Core.Bool.{true, _||_};
-ghost use mathlib.Core.Option.{none};
-ghost use Prim.Native.Nat.{_+_, _*_, _<_, _≤_};
+ghost use Prim.Native.Nat.{_+_, _*_, _≤_};
 ghost use lib.ListN.{length, getD, take};
-ghost use lib.Seq.{paste};
 ghost use lib.Dec.{eqb};
 ghost use Rattle.naming.specs.Names.{cluesOf};
 ghost use Rattle.labelling.specs.Labels as model;
-ghost use Rattle.match_calls.specs.Matching.{labelsIn, streamCheck};
 ghost use Rattle.clue_lengths.specs.Lens.{lensOf};
 ghost use Rattle.layouts.specs.Words as layout;
-ghost use Rattle.refusals.specs.Answers.{verdictOf};
-ghost use Rattle.refusals.specs.declared.Verdict.the-variants as verdict;
-ghost use Rattle.streams.specs.Streams.{sharesOf, Along, Paths, leadsOn, wordsAt, labelAt, labelBefore, standsAt, Stood};
+ghost use Rattle.streams.specs.Streams.{Along, leadsOn, wordsAt, labelAt, labelBefore, standsAt, Stood};
 ghost use Rattle.streams.specs.Answers.{linkOf};
 
 // A label of a stream: how many components it shares with the one before it, or that it may not stand there.
@@ -84,7 +75,7 @@ fn is_later(i: usize, previous: &[u16], label: &[u16], s: usize) -> bool
 }
 
 // Label i of a stream, read behind the one before it: the names along it take the place of those along that one.
-fn read_label(
+pub fn read_label(
     table: &Table,
     lens: &[usize],
     largest: &[u16; 32],
@@ -115,49 +106,4 @@ fn read_label(
         return Link::RuledOut;
     }
     Link::Shares(s)
-}
-
-// Sixteen names, written to the places of label i.
-fn write_names(names: &[u8], paths: &mut [u8], i: usize)
-    requires { ⌜ (length (now names) ≡ 16) × (i * 16 + 16 ≤ length (now paths)) ⌝ }
-    ensures { λ u. ⌜ now (paths .exit) ≡ paste (now (paths .entry)) (i * 16) (now (names .entry)) 16 ⌝ }
-{
-    let mut j: usize = 0;
-    while j < Label::WORDS {
-        paths[i * Label::WORDS + j] = names[j];
-        j += 1;
-    }
-}
-
-// The check of a stream, whose first label is label `base` of its buffer. One that passes leaves in `shares` how many
-// components each label shares with the one before it, and in `paths`, sixteen places for each, the names along it.
-pub fn check_stream(
-    table: &Table,
-    lens: &[usize],
-    root: u8,
-    want: u8,
-    base: usize,
-    stream: &[u16],
-    shares: &mut [u8],
-    paths: &mut [u8],
-) -> Verdict
-    requires { ⌜ (now lens ≡ lensOf (now table)) × (length (now stream) ≡ length (now shares) * 16) × (length (now shares) * 16 ≤ length (now paths)) × (length (now shares) ≤ 4096) × (base ≤ 32768) ⌝ }
-    ensures { λ v. ⌜ v ≡ verdictOf (streamCheck (cluesOf (now (table .entry))) root want base none (length (now (shares .entry))) (now (stream .entry))) ⌝ }
-    ensures { λ v. ⌜ (length (now (shares .exit)) ≡ length (now (shares .entry))) × (length (now (paths .exit)) ≡ length (now (paths .entry))) ⌝ }
-    ensures { λ v. ⌜ (v ≡ verdict.Passed → (now (shares .exit) ≡ sharesOf (labelsIn (length (now (shares .entry))) (now (stream .entry)))) × Paths (cluesOf (now (table .entry))) root (labelsIn (length (now (shares .entry))) (now (stream .entry))) (now (paths .exit))) ⌝ }
-{
-    // Read once: a constant array is made anew wherever it is read.
-    let largest = LARGEST;
-    let mut names = [0u8; 16];
-    names[0] = root;
-    let mut i: usize = 0;
-    while i < shares.len() {
-        let Link::Shares(s) = read_label(table, lens, &largest, want, stream, i, &mut names) else {
-            return refuse(Refusal::BAD_STREAM, base + i);
-        };
-        shares[i] = s as u8;
-        write_names(&names, paths, i);
-        i += 1;
-    }
-    Verdict::Passed
 }

@@ -25,15 +25,17 @@ use Rattle.refusals.specs.Answers.{verdictOf}
 use Rattle.refusals.specs.declared.Verdict.{Verdict}
 use Rattle.refusals.specs.declared.Verdict.the-variants as verdict
 use Rattle.refusals.proofs.Verdicts.{passed-none}
-use Rattle.streams.specs.Streams.{sharesOf, Along, Paths, wordsAt, labelAt, previousAt, labelBefore, standsAt, Stood}
+use Rattle.streams.specs.Streams.{Along, wordsAt, labelAt, previousAt, labelBefore, standsAt, Stood}
 use Rattle.streams.specs.Answers.{linkOf}
 use Rattle.streams.specs.declared.Link.{Link}
 use Rattle.streams.specs.declared.Link.the-variants as link
-use Rattle.streams.proofs.Streams.{along-root, length-shares, shares-at}
+use Rattle.streams.proofs.Along.{along-root}
+use Rattle.streams.proofs.Links.{share-in}
 use Rattle.match_calls.proofs.Buffers.{length-labelsIn}
-use Rattle.streams.proofs.Words.{labels-at, labels-before}
-use Rattle.streams.proofs.Links.{share-in}
-use Rattle.streams.proofs.Rows.{pasted-here, pasted-before}
+use Rattle.stream_checks.specs.Streams.{sharesOf, Paths}
+use Rattle.stream_checks.proofs.Shares.{length-shares, shares-at}
+use Rattle.stream_checks.proofs.Labels.{labels-at, labels-before}
+use Rattle.stream_checks.proofs.Rows.{pasted-here, pasted-before}
 
 -- a label that stands shares what it is said to share
 said-shares : (b : Bool) (t : ℕ) {s : ℕ} {k : Link} → k ≡ linkOf b t → k ≡ link.Shares s → (b ≡ true) × (s ≡ t)

@@ -1,13 +1,13 @@
--- `streams::write_names` meets its contract: the names before the index are written.
+-- `stream_checks::write_names` meets its contract: the names before the index are written.
 use Prim.Native.Nat.{_≤_, _-_, _*_}
 use mathlib.Core.Path.{_≡_}
 use borrow.Author.Needs.{needs}
 use lib.ListN.{length}
 use lib.Seq.{paste, paste-zero}
 use Rattle.basics.specs.Limits.{labelSize}
-use Rattle.streams.proofs.Rows.{name-more, names-all}
-use Rattle.streams.proofs.write_names.Statement.{statement}
-use Rattle.streams.proofs.write_names.Tie as tie
+use Rattle.stream_checks.proofs.Rows.{name-more, names-all}
+use Rattle.stream_checks.proofs.write_names.Statement.{statement}
+use Rattle.stream_checks.proofs.write_names.Tie as tie
 
 abbrev Inv-loop : tie.InvT-loop
 Inv-loop names paths₀ i j₀ paths j = (j ≤ labelSize) × (length paths ≡ length paths₀) × (paths ≡ paste paths₀ (i * labelSize) names j)

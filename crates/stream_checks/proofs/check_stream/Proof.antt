@@ -1,14 +1,14 @@
--- `streams::check_stream` meets its contract: the labels before the loop's stand, are counted, and their names are laid out.
+-- `stream_checks::check_stream` meets its contract: the labels before the loop's stand, are counted, and their names are laid out.
 use Prim.Native.Nat.{_≤_, _-_}
 use mathlib.Core.Path.{_≡_}
 use borrow.Author.Needs.{needs, fits-under}
 use lib.ListN.{length}
 use Rattle.basics.specs.Limits.{labelSize}
 use Rattle.naming.specs.Names.{cluesOf}
-use Rattle.streams.proofs.Reading.{Reading, refused-not, read-start, read-ready, read-end, read-out, read-few, read-on}
-use Rattle.streams.proofs.Rows.{pasted-long}
-use Rattle.streams.proofs.check_stream.Statement.{statement}
-use Rattle.streams.proofs.check_stream.Tie as tie
+use Rattle.stream_checks.proofs.Reading.{Reading, refused-not, read-start, read-ready, read-end, read-out, read-few, read-on}
+use Rattle.stream_checks.proofs.Rows.{pasted-long}
+use Rattle.stream_checks.proofs.check_stream.Statement.{statement}
+use Rattle.stream_checks.proofs.check_stream.Tie as tie
 
 abbrev Inv-loop : tie.InvT-loop
 Inv-loop table lens root want base stream shares₀ paths₀ largest names₀ i₀ shares paths names i =
