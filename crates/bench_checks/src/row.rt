@@ -1,6 +1,6 @@
 // What the numbers of a row stand for.
+use bench_names::bench_table;
 use guards::put_word;
-use name_files::bench_table;
 use name_files::read_names;
 use names::Table;
 use wrapping::half;

@@ -32,7 +32,7 @@ pub extern "C" fn jiszteruk_bench_table(table: &mut [u8]) -> u8
     if table.len() != TABLE_BYTES {
         return Refusal::BAD_TABLE;
     }
-    let rows = name_files::bench_table();
+    let rows = bench_names::bench_table();
     put_table(&rows, table);
     0
 }

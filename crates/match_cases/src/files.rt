@@ -1,8 +1,8 @@
 // Three files in memory, each in an area of its own: two bytes tell the file's length, and its own bytes follow.
+use bench_names::BENCH_PAIRS;
 use guards::byte;
 use guards::number;
 use guards::put_byte;
-use name_files::BENCH_PAIRS;
 use prefixes::front_bytes;
 use records::Store;
 use suffixes::behind_bytes;

@@ -1,4 +1,4 @@
-// Child-name files, checked and read into tables; the bench's own pairs and table.
+// Child-name files, checked and read into tables.
 use names::FILLER;
 use names::MAX_NAME;
 use names::Place;
@@ -10,15 +10,11 @@ use refusals::Verdict;
 use refusals::refuse;
 ghost use mathlib.Core.Path.{_≡_};
 ghost use Rattle.naming.specs.Names.{fileCheck, emptyTable, readNames};
-ghost use Rattle.naming.specs.Examples.{benchTable};
 ghost use Rattle.refusals.specs.Answers.{verdictOf};
 ghost use Rattle.name_files.specs.Answers.{PairsPut};
 
 // A child-name file has at most 8,192 bytes.
 pub const MAX_FILE: usize = 8192;
-
-// The bench's own pairs, parent then child as a child-name file has them: 0 garage, 1 vehicle, 2 test, 3 axle, 4 curve, 5 note.
-pub const BENCH_PAIRS: [u8; 14] = [0, 1, 1, 2, 1, 5, 2, 5, 2, 3, 2, 4, 3, 4];
 
 // Puts the pairs of a child-name file into a table of empty clues: 1 to 3, or all of them stand there.
 fn put_pairs(file: &[u8], table: &mut Table) -> Verdict
@@ -70,11 +66,4 @@ pub fn read_names(file: &[u8]) -> Table
         return [[FILLER; 64]; 64];
     };
     table
-}
-
-// The bench's own table, read from its pairs.
-pub fn bench_table() -> Table
-    ensures { λ r. ⌜ r ≡ benchTable ⌝ }
-{
-    read_names(&BENCH_PAIRS)
 }

@@ -1,5 +1,5 @@
 // The tables that stores are made under.
-use name_files::bench_table;
+use bench_names::bench_table;
 use name_files::read_names;
 use names::Table;
 

@@ -1,8 +1,8 @@
--- `name_files::bench_table` meets its contract: the bench's own pairs give its table.
+-- `bench_names::bench_table` meets its contract: the bench's own pairs give its table.
 use borrow.Author.Needs.{needs}
 use Rattle.naming.specs.Examples.{benchFile, benchTable}
-use Rattle.name_files.proofs.bench_table.Statement.{statement}
-use Rattle.name_files.proofs.bench_table.Tie as tie
+use Rattle.bench_names.proofs.bench_table.Statement.{statement}
+use Rattle.bench_names.proofs.bench_table.Tie as tie
 
 pub bench-table-spec : {M : Type 1} → statement M
 unfolding benchTable benchFile
