@@ -14,7 +14,7 @@ use kinship::FollowsAnswer;
 use kinship::KinshipAnswer;
 use kinship::follows;
 use kinship::kinship;
-use labels::check_label;
+use label_checks::check_label;
 use name_files::check_names;
 use name_files::read_names;
 use names::Place;

@@ -1,5 +1,5 @@
 // What the calls that change a store share: their answer, the checks before their own, and the root's record, which a child's is made of.
-use labels::check_label;
+use label_checks::check_label;
 use names::Table;
 use records::Store;
 use refusals::Verdict;

@@ -11,14 +11,10 @@ use lib.Dec.{T}
 use borrow.Author.Tests.{eq-eqb, ne-eqb, le-leb, lt-leb, not-true, not-false}
 use Rattle.basics.specs.Basics.{all}
 use Rattle.basics.specs.Limits.{maxComponent, maxDepth, labelSize}
-use Rattle.basics.specs.Refusals.{check, refuse, notLabel}
-use Rattle.labelling.specs.Labels.{Label, isComponent, labelOf, isLabel, labelCheck}
+use Rattle.labelling.specs.Labels.{Label, isComponent, labelOf, isLabel}
 use Rattle.labelling.proofs.LabelWords.{IsLabel, isLabel-iff, labelOf-good}
 use Rattle.basics.proofs.Scans.{tail-is}
-use Rattle.refusals.specs.Answers.{verdictOf}
-use Rattle.refusals.specs.declared.Verdict.{Verdict}
-use Rattle.refusals.specs.declared.Verdict.the-variants as verdict
-use Rattle.labels.specs.Words.{isZero}
+use Rattle.zeros.specs.Words.{isZero}
 
 -- a test that is true passes
 pub passed : {b : Bool} → b ≡ true → T b
@@ -86,18 +82,6 @@ module _ (ws : List ℕ) (good : isLabel ws ≡ true) where
     pub label-short : length l ≤ maxDepth
     unfolding labelOf
     label-short = rw e (labelOf-good ws (passed good) .shallow)
-
--- the check of a label: x is what `is_label` answered
-module _ (ws : List ℕ) {x : Bool} (is : x ≡ isLabel ws) where
-  -- a label passes
-  pub check-passes : x ≡ true → verdict.Passed ≡ verdictOf (labelCheck ws)
-  unfolding labelCheck check
-  check-passes e = rw (← is, e)
-
-  -- anything else is refused
-  pub check-refuses : x ≡ false → {v : Verdict} → v ≡ verdictOf (refuse notLabel 0) → v ≡ verdictOf (labelCheck ws)
-  unfolding labelCheck check
-  check-refuses e f = rw (← is, e) f
 
 -- words that `is_label` let pass are a label
 pub known-label : (a : List ℕ) {x : Bool} → x ≡ isLabel a → not x ≡ false → isLabel a ≡ true

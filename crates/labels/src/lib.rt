@@ -1,7 +1,5 @@
 // Labels alone: sixteen words, the depth, then the components, unused ones 0.
-use refusals::Refusal;
-use refusals::Verdict;
-use refusals::refuse;
+use zeros::all_zero;
 ghost use mathlib.Core.Path.{_≡_};
 ghost use mathlib.Core.Bool.{true};
 ghost use Prim.Native.Nat.{_≤_, _<_};
@@ -9,8 +7,6 @@ ghost use mathlib.Core.List.{[]};
 ghost use lib.ListN.{length, take, drop};
 ghost use Rattle.basics.specs.Basics.{all};
 ghost use Rattle.labelling.specs.Labels as model;
-ghost use Rattle.refusals.specs.Answers.{verdictOf};
-ghost use Rattle.labels.specs.Words.{isZero};
 
 // A label outside the store.
 pub struct Label {
@@ -47,19 +43,6 @@ fn all_components(s: &[u16]) -> bool
     true
 }
 
-// Every word is 0. The words are gathered with no way out between them, so that the compiler takes several at once.
-pub fn all_zero(s: &[u16]) -> bool
-    ensures { λ r. ⌜ r ≡ all isZero (now (s .entry)) ⌝ }
-{
-    let mut any: u16 = 0;
-    let mut i: usize = 0;
-    while i < s.len() {
-        any |= s[i];
-        i += 1;
-    }
-    any == 0
-}
-
 // The d words after the first.
 fn after_first(words: &[u16], d: usize) -> &[u16]
     requires { ⌜ d < length (now words) ⌝ }
@@ -83,17 +66,6 @@ pub fn is_label(words: &[u16]) -> bool
         return false;
     }
     all_zero(&words[d + 1..])
-}
-
-// The check of a label, 15.
-pub fn check_label(words: &[u16]) -> Verdict
-    ensures { λ r. ⌜ r ≡ verdictOf (model.labelCheck (now (words .entry))) ⌝ }
-{
-    if is_label(words) {
-        Verdict::Passed
-    } else {
-        refuse(Refusal::NOT_LABEL, 0)
-    }
 }
 
 // The components of a label.

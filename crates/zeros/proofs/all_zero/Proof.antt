@@ -1,4 +1,4 @@
--- `labels::all_zero` meets its contract: the words before the loop's index, all together.
+-- `zeros::all_zero` meets its contract: the words before the loop's index, all together.
 use borrow.Author.Needs.{needs}
 use Prim.Native.Nat.{_≤_, _-_}
 use mathlib.Core.Path.{_≡_}
@@ -6,10 +6,10 @@ use mathlib.Core.Bool.{_&&_}
 use lib.Dec.{eqb}
 use lib.ListN.{length, drop}
 use Rattle.basics.specs.Basics.{all}
-use Rattle.labels.specs.Words.{isZero}
+use Rattle.zeros.specs.Words.{isZero}
 use Rattle.basics.proofs.Scans.{zeros-on, zeros-end}
-use Rattle.labels.proofs.all_zero.Statement.{statement}
-use Rattle.labels.proofs.all_zero.Tie as tie
+use Rattle.zeros.proofs.all_zero.Statement.{statement}
+use Rattle.zeros.proofs.all_zero.Tie as tie
 
 abbrev Inv-loop : tie.InvT-loop
 Inv-loop s any₀ i₀ any i = (i ≤ length s) × (all isZero s ≡ (eqb any 0 && all isZero (drop i s)))

@@ -1,4 +1,4 @@
--- A word of a label that is not used.
+-- A word that is 0.
 use Prim.Native.Nat.{ℕ}
 use mathlib.Core.Bool.{Bool}
 use lib.Dec.{eqb}
