@@ -14,10 +14,10 @@ use Rattle.naming.specs.Names.{Clues, led}
 use Rattle.labelling.specs.Labels.{Label, path, stuck, decode, pathCheck, namesIn}
 use Rattle.basics.proofs.Lists.{last-snoc}
 use Rattle.labelling.proofs.Decode.{further, decode-snoc, decode-child, stuck-more}
-use Rattle.names.specs.Answers.{childOf}
-use Rattle.names.proofs.Children.{child-name, child-nowhere}
-use Rattle.names.specs.declared.Child.{Child}
-use Rattle.names.specs.declared.Child.the-variants as child
+use Rattle.clues.specs.Answers.{childOf}
+use Rattle.clues.proofs.Children.{child-name, child-nowhere}
+use Rattle.clues.specs.declared.Child.{Child}
+use Rattle.clues.specs.declared.Child.the-variants as child
 use Rattle.refusals.specs.declared.Verdict.the-variants as verdict
 use Rattle.decoding.specs.declared.Decoding.{Decoding}
 use Rattle.decoding.specs.Answers.{refusedBy, decodedBy}

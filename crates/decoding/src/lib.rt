@@ -1,10 +1,10 @@
 // Decoding: the names from the root that a label leads to.
+use clues::Child;
+use clues::child_of;
 use labels::components;
 use labels::is_label;
-use names::Child;
 use names::MAX_NAME;
 use names::Table;
-use names::child_of;
 use refusals::Refusal;
 use refusals::Verdict;
 use refusals::refuse;

@@ -23,10 +23,10 @@ use Rattle.store_calls.proofs.Parents.{parent-ten, parent-eleven, parent-twelve
 use Rattle.refusals.specs.Answers.{refusalOf, verdictOf}
 use Rattle.refusals.specs.declared.Refusal.{Refusal as Shown}
 use Rattle.refusals.specs.declared.Verdict.the-variants as verdict
-use Rattle.names.specs.Answers.{placeOf}
-use Rattle.names.proofs.Children.{place-at, place-absent}
-use Rattle.names.specs.declared.Place.{Place}
-use Rattle.names.specs.declared.Place.the-variants as place
+use Rattle.clues.specs.Answers.{placeOf}
+use Rattle.clues.proofs.Children.{place-at, place-absent}
+use Rattle.clues.specs.declared.Place.{Place}
+use Rattle.clues.specs.declared.Place.the-variants as place
 use Rattle.numbers.specs.Answers.{numberOf, numberFor}
 use Rattle.numbers.specs.declared.Number.{Number}
 use Rattle.numbers.specs.declared.Number.the-variants as number

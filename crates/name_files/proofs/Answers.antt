@@ -17,10 +17,10 @@ use Rattle.refusals.specs.declared.Verdict.{Verdict}
 use Rattle.refusals.specs.declared.Verdict.the-variants as verdict
 use Rattle.refusals.specs.Answers.{verdictOf}
 use Rattle.refusals.proofs.Verdicts.{passed-none, refused-some}
-use Rattle.names.specs.declared.Place.{Place}
-use Rattle.names.specs.declared.Place.the-variants as place
-use Rattle.names.specs.Answers.{placeOf}
-use Rattle.names.proofs.Children.{place-at, place-absent}
+use Rattle.clues.specs.declared.Place.{Place}
+use Rattle.clues.specs.declared.Place.the-variants as place
+use Rattle.clues.specs.Answers.{placeOf}
+use Rattle.clues.proofs.Children.{place-at, place-absent}
 use Rattle.name_files.specs.Answers.{PairsPut}
 use Rattle.name_files.proofs.Reading.{Reading, read-end, read-high-parent, read-high-child, read-again, read-room, read-on}
 

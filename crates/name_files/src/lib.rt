@@ -1,10 +1,10 @@
 // Child-name files, checked and read into tables.
+use clues::Place;
+use clues::clue_len;
+use clues::place_of;
 use names::FILLER;
 use names::MAX_NAME;
-use names::Place;
 use names::Table;
-use names::clue_len;
-use names::place_of;
 use refusals::Refusal;
 use refusals::Verdict;
 use refusals::refuse;

@@ -1,8 +1,7 @@
-// Names, and what may stand below them: the child-name table and its lookups.
+// Names, and the table of what may stand below them: its rows, and how many names each has.
 ghost use mathlib.Core.Path.{_≡_};
 ghost use lib.ListN.{length};
 ghost use Rattle.naming.specs.Names as model;
-ghost use Rattle.names.specs.Answers.{placeOf, childOf};
 
 // The highest name.
 pub const MAX_NAME: u8 = 63;
@@ -15,18 +14,6 @@ pub const ANY_NAME: u8 = 255;
 
 // Row p has the child names of name p, in file order, filled up with 255.
 pub type Table = [[u8; 64]; 64];
-
-// The place of a name in a clue.
-pub enum Place {
-    At(usize),
-    Absent,
-}
-
-// The name that a component leads to.
-pub enum Child {
-    Name(u8),
-    Nowhere,
-}
 
 // A row as a slice; a proof learns here how long it is.
 pub fn whole(row: &[u8; 64]) -> &[u8]
@@ -42,17 +29,6 @@ pub fn rows_of(table: &Table) -> &[[u8; 64]]
     table
 }
 
-// A name's row, copied; no names for a number that is no name.
-fn row_of(table: &Table, parent: usize) -> [u8; 64]
-    ensures { λ r. ⌜ model.namesOf r ≡ model.cluesOf (now (table .entry)) parent ⌝ }
-{
-    let rows = rows_of(table);
-    if rows.len() <= parent {
-        return [FILLER; 64];
-    }
-    rows[parent]
-}
-
 // How many names a row has before its filling.
 pub fn row_len(row: &[u8]) -> usize
     ensures { λ r. ⌜ r ≡ length (model.namesOf (now (row .entry))) ⌝ }
@@ -65,66 +41,4 @@ pub fn row_len(row: &[u8]) -> usize
         i += 1;
     }
     i
-}
-
-// How many names the clue of a name has.
-pub fn clue_len(table: &Table, parent: usize) -> usize
-    ensures { λ r. ⌜ r ≡ length (model.cluesOf (now (table .entry)) parent) ⌝ }
-{
-    let row = row_of(table, parent);
-    row_len(whole(&row))
-}
-
-// The place of a name in a row.
-fn row_place(row: &[u8], child: u8) -> Place
-    ensures { λ r. ⌜ r ≡ placeOf (model.placeIn child (model.namesOf (now (row .entry)))) ⌝ }
-{
-    let mut i: usize = 0;
-    while i < row.len() {
-        let x = row[i];
-        if x == FILLER {
-            return Place::Absent;
-        }
-        if x == child {
-            return Place::At(i);
-        }
-        i += 1;
-    }
-    Place::Absent
-}
-
-// The place of a child name in the clue of a name.
-pub fn place_of(table: &Table, parent: usize, child: u8) -> Place
-    ensures { λ r. ⌜ r ≡ placeOf (model.placeIn child (model.cluesOf (now (table .entry)) parent)) ⌝ }
-{
-    let row = row_of(table, parent);
-    row_place(whole(&row), child)
-}
-
-// The name that a component leads to in a row of n names.
-fn row_child(row: &[u8], n: usize, component: u16) -> Child
-    requires { ⌜ n ≡ length (model.namesOf (now row)) ⌝ }
-    ensures { λ r. ⌜ r ≡ childOf (model.led (model.namesOf (now (row .entry))) component) ⌝ }
-{
-    if n == 0 {
-        return Child::Nowhere;
-    }
-    let k = (component as usize) % n;
-    Child::Name(row[k])
-}
-
-// The name that a component leads to from a name.
-pub fn child_of(table: &Table, parent: usize, component: u16) -> Child
-    ensures { λ r. ⌜ r ≡ childOf (model.led (model.cluesOf (now (table .entry)) parent) component) ⌝ }
-{
-    child_among(table, parent, clue_len(table, parent), component)
-}
-
-// The name that a component leads to from a name whose clue has n names.
-pub fn child_among(table: &Table, parent: usize, n: usize, component: u16) -> Child
-    requires { ⌜ n ≡ length (model.cluesOf (now table) parent) ⌝ }
-    ensures { λ r. ⌜ r ≡ childOf (model.led (model.cluesOf (now (table .entry)) parent) component) ⌝ }
-{
-    let row = row_of(table, parent);
-    row_child(whole(&row), n, component)
 }

@@ -13,10 +13,10 @@ use Rattle.naming.specs.Names.{Clues, led, isName}
 use Rattle.labelling.specs.Labels.{Label, before, shared, labelOf}
 use Rattle.storage.specs.Store as model
 use Rattle.labelling.proofs.Kinship.{shared-low}
-use Rattle.names.specs.Answers.{childOf}
-use Rattle.names.specs.declared.Child.{Child}
-use Rattle.names.specs.declared.Child.the-variants as child
-use Rattle.names.proofs.Children.{child-name, child-nowhere}
+use Rattle.clues.specs.Answers.{childOf}
+use Rattle.clues.specs.declared.Child.{Child}
+use Rattle.clues.specs.declared.Child.the-variants as child
+use Rattle.clues.proofs.Children.{child-name, child-nowhere}
 use Rattle.records.specs.Records.{recordAt}
 use Rattle.records.proofs.Parts.{record-word, record-label, record-long}
 use Rattle.record_rules.specs.Rules.{closedBy, brokenRoot, brokenBelow}

@@ -1,11 +1,11 @@
 // The rules that a record of a sound store keeps behind its layout: the first one that it breaks.
 use clue_lengths::clue_len_of;
+use clues::Child;
+use clues::child_among;
 use label_order::ordered;
 use labels::Label;
-use names::Child;
 use names::MAX_NAME;
 use names::Table;
-use names::child_among;
 use records::Store;
 use records::label_at;
 ghost use mathlib.Core.Path.{_≡_};

@@ -1,14 +1,14 @@
 // Stores made up by entries and deletions at random.
 use crate::random::roll;
+use clues::Child;
+use clues::child_of;
 use deletions::delete;
 use entries::enter;
 use guards::word;
 use labels::Label;
-use names::Child;
 use names::FILLER;
 use names::TABLE_SIZE;
 use names::Table;
-use names::child_of;
 use new_stores::new_store;
 use prefixes::copy;
 use prefixes::front;

@@ -13,10 +13,10 @@ use Rattle.naming.specs.Names.{Clues, led}
 use Rattle.basics.specs.Limits.{maxDepth, labelSize}
 use Rattle.labelling.specs.Labels.{Label, path, stuck, decode}
 use Rattle.labelling.proofs.Decode.{further, decode-snoc, decode-child, stuck-more, name-end}
-use Rattle.names.specs.Answers.{childOf}
-use Rattle.names.specs.declared.Child.{Child}
-use Rattle.names.specs.declared.Child.the-variants as child
-use Rattle.names.proofs.Children.{child-name, child-nowhere}
+use Rattle.clues.specs.Answers.{childOf}
+use Rattle.clues.specs.declared.Child.{Child}
+use Rattle.clues.specs.declared.Child.the-variants as child
+use Rattle.clues.proofs.Children.{child-name, child-nowhere}
 use Rattle.streams.specs.Streams.{Along, leadsOn}
 use Rattle.streams.proofs.Along.{along-name}
 

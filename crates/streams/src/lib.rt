@@ -1,13 +1,13 @@
 // Streams: one label of a stream, read behind the one before it, of which only what changed is decoded.
 use clue_lengths::clue_len_of;
+use clues::Child;
+use clues::child_among;
 use label_order::ordered;
 use labels::Label;
 use labels::components;
 use layouts::laid_out;
 use layouts::shared_part;
-use names::Child;
 use names::Table;
-use names::child_among;
 use twigs::asks;
 ghost use mathlib.Core.Path.{_≡_};
 ghost use mathlib.Core.Bool.{true, _||_};

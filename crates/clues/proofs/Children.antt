@@ -3,11 +3,11 @@ use Prim.Native.Nat.{ℕ}
 use mathlib.Core.Path.{_≡_, refl}
 use mathlib.Core.Option.{Option, none, some}
 use native.Mathlib.Omega.{arith}
-use Rattle.names.specs.Answers.{placeOf, childOf}
-use Rattle.names.specs.declared.Place.{Place}
-use Rattle.names.specs.declared.Place.the-variants as place
-use Rattle.names.specs.declared.Child.{Child}
-use Rattle.names.specs.declared.Child.the-variants as child
+use Rattle.clues.specs.Answers.{placeOf, childOf}
+use Rattle.clues.specs.declared.Place.{Place}
+use Rattle.clues.specs.declared.Place.the-variants as place
+use Rattle.clues.specs.declared.Child.{Child}
+use Rattle.clues.specs.declared.Child.the-variants as child
 
 -- a name that was found
 pub child-name : (o : Option ℕ) {c : ℕ} {r : Child} → r ≡ childOf o → r ≡ child.Name c → some c ≡ o

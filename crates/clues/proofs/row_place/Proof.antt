@@ -1,10 +1,10 @@
--- `names::row_place` meets its contract: the loop has searched the places before its index.
+-- `clues::row_place` meets its contract: the loop has searched the places before its index.
 use Prim.Native.Nat.{_≤_, _-_}
 use borrow.Author.Needs.{needs}
 use lib.ListN.{length}
-use Rattle.names.proofs.Rows.{Searched, shift-from, search-end, search-stop, search-here, search-on}
-use Rattle.names.proofs.row_place.Statement.{statement}
-use Rattle.names.proofs.row_place.Tie as tie
+use Rattle.clues.proofs.Rows.{Searched, shift-from, search-end, search-stop, search-here, search-on}
+use Rattle.clues.proofs.row_place.Statement.{statement}
+use Rattle.clues.proofs.row_place.Tie as tie
 
 abbrev Inv-loop : tie.InvT-loop
 Inv-loop row child i₀ i = (i ≤ length row) × Searched child row i
