@@ -2,7 +2,7 @@
 use Prim.Native.Nat.{ℕ, zero, suc, _+_, _-_, _<_, _≤_}
 use mathlib.Core.Path.{_≡_, refl, sym, ap, _∙_}
 use mathlib.Core.List.{List, [], _∷_}
-use mathlib.Core.Bool.{Bool, true, false, cond, false≢true, not, _&&_, _||_, and-true, and-false, and-comm}
+use mathlib.Core.Bool.{Bool, true, false, not, _&&_, _||_, and-true, and-false, and-comm}
 use native.Mathlib.Nat.{not-suc-le-zero, le-of-suc-le-suc}
 use native.Mathlib.Omega.{arith}
 use lib.ListN.{length, getD, take, drop, set, replicate, length-take, drop-of-length-le}
@@ -132,23 +132,6 @@ module _ (row : List ℕ) (i least : ℕ) where
           go : (t : Bool) → Tells (least ≡ filler) t → (t && (isFiller (getD row i 0) && all isFiller (drop (i + 1) row))) ≡ (t && all isFiller (drop (i + 1) row))
           go t (passes z) = let full : eqb (getD row i 0) filler ≡ true = eq-eqb (getD row i 0) filler (omega arith) in rw full
           go t (fails z) = refl
-
--- a row of filling alone has no names
-filling-names : (row : List ℕ) → all isFiller row ≡ true → namesOf row ≡ []
-unfolding all namesOf
-filling-names [] e = refl
-filling-names (x ∷ row) e = go (eqb x filler) e
-  where
-    go : (b : Bool) → (b && all isFiller row) ≡ true → cond b [] (x ∷ namesOf row) ≡ []
-    go true e = refl
-    go false e = absurd (false≢true e)
-
--- a row of filling alone is good
-pub filling-good : (row : List ℕ) {x : Bool} → x ≡ all isFiller row → x ≡ true → true ≡ goodRow row
-unfolding goodRow all twice
-filling-good row is e =
-    let full : all isFiller row ≡ true = sym is ∙ e in
-    rw (filling-names row full, full)
 
 -- a row cut in two: n is how many names it has
 module _ (row : List ℕ) {n : ℕ} (is : n ≡ length (namesOf row)) where

@@ -1,6 +1,6 @@
--- `table_checks::row_good` meets its contract: a row of filling alone is good, any other is cut where its names end, and each part has its test.
+-- `table_checks::row_good` meets its contract: a row is cut where its names end, and each part has its test.
 use borrow.Author.Needs.{needs}
-use Rattle.table_checks.proofs.Marks.{filling-good, cut-in, cut-long, cut-not, cut-rest}
+use Rattle.table_checks.proofs.Marks.{cut-in, cut-long, cut-not, cut-rest}
 use Rattle.table_checks.proofs.row_good.Statement.{statement}
 use Rattle.table_checks.proofs.row_good.Tie as tie
 
@@ -8,8 +8,6 @@ pub row-good-spec : {M : Type 1} → statement M
 row-good-spec =
     tie.close
     (tie.spec
-    (λ c κs. search needs)
-    (λ c. search (filling-good, needs))
     (λ c κs. search needs)
     (λ c. search (cut-long, needs))
     (λ c κs. search needs)
