@@ -9,7 +9,7 @@ use Rattle.labelling.specs.Numbers.{number, articleNumber}
 use Rattle.labelling.specs.Labels.{Label, labelOf, labelWords, decodeCall, kinshipCall}
 use Rattle.store_calls.specs.Updates.{Answer, newStore}
 use Rattle.printouts.specs.Printing.{text, joinedBy, labelText}
-use Rattle.model.specs.Book.{Call, entry, deletion, answer}
+use Rattle.book.specs.Book.{Call, entry, deletion, answer}
 use Rattle.basics.specs.Examples.{shown, told, Check, is}
 use Rattle.naming.specs.Examples.{benchTable}
 

@@ -1,11 +1,11 @@
 // A line of a file of cases: where its bar stands, and its numbers.
+use guards::number;
+use guards::put_number;
+use wrapping::sum;
 ghost use mathlib.Core.Path.{_≡_};
 ghost use mathlib.Core.Bool.{false};
 ghost use lib.ListN.{drop};
 ghost use Rattle.case_lines.specs.Lines.{barOf, digit, placeOf, withByte, rowOf};
-use guards::number;
-use guards::put_number;
-use wrapping::sum;
 
 // The places of a row: how many numbers a line has, and the numbers.
 pub const ROW: usize = 40;

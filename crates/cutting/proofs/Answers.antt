@@ -13,10 +13,10 @@ use Rattle.basics.specs.Limits.{anyName, labelSize}
 use Rattle.basics.specs.Refusals.{Refusal, refuse, check, first, nameAsked, shortOutput}
 use Rattle.naming.specs.Names.{isName}
 use Rattle.patterns.specs.Twigs.{nameCheck}
-use Rattle.patterns.specs.Matches.{labelsWords}
+use Rattle.embeddings.specs.Matches.{labelsWords}
 use Rattle.storage.specs.Store.{elements}
 use Rattle.basics.specs.Outputs as outputs
-use Rattle.store_calls.specs.Cutting as model
+use Rattle.cut_calls.specs.Cutting as model
 use Rattle.basics.proofs.Refusals.{first-last}
 use Rattle.refusals.specs.Answers.{verdictOf, filled, refusedBy, listingOf}
 use Rattle.refusals.specs.declared.Listing.{Listing}

@@ -6,7 +6,7 @@ use mathlib.Core.List.{List}
 use native.Mathlib.Omega.{arith}
 use lib.ListN.{getD}
 use Rattle.basics.specs.Limits.{recordSize, nameWord}
-use Rattle.patterns.specs.Matches.{asks}
+use Rattle.embeddings.specs.Matches.{asks}
 use Rattle.storage.specs.Store.{readElement}
 use Rattle.records.specs.Records.{recordAt}
 use Rattle.records.proofs.Parts.{record-word}

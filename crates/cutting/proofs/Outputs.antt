@@ -8,7 +8,7 @@ use lib.Seq.{drop-drop}
 use Rattle.basics.specs.Basics.{over, joined}
 use Rattle.basics.specs.Limits.{labelSize, maxDepth}
 use Rattle.labelling.specs.Labels.{Label, labelWords}
-use Rattle.patterns.specs.Matches.{labelsWords}
+use Rattle.embeddings.specs.Matches.{labelsWords}
 use Rattle.labelling.proofs.LabelWords.{length-labelWords}
 use Rattle.words.specs.Writing as words
 use Rattle.words.proofs.Writing.{take-written-end, drop-written-end}

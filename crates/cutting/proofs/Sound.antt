@@ -9,16 +9,16 @@ use lib.Dec.{T}
 use Rattle.basics.specs.Basics.{_∈_}
 use Rattle.basics.specs.Limits.{maxDepth, labelSize, recordSize}
 use Rattle.naming.specs.Names.{Clues, cluesOf}
-use Rattle.patterns.specs.Matches.{labelsWords}
+use Rattle.embeddings.specs.Matches.{labelsWords}
 use Rattle.storage.specs.Store.{Element, readElement, records, elements, laidOut, fault}
-use Rattle.store_calls.specs.Cutting.{stream}
+use Rattle.cut_calls.specs.Cutting.{stream}
 use Rattle.storage.proofs.Faults.{fault-cons, sound-check}
 use Rattle.basics.proofs.Lists.{member-at}
-use Rattle.patterns.proofs.MatchWords.{length-labelsWords}
+use Rattle.embeddings.proofs.MatchWords.{length-labelsWords}
 use Rattle.storage.proofs.Relaid.{sound-laid}
 use Rattle.storage.proofs.Sizes.{length-elements-read}
 use Rattle.storage.proofs.SoundStore.{label-good}
-use Rattle.store_calls.proofs.StreamWords.{for-stream}
+use Rattle.cut_calls.proofs.StreamWords.{for-stream}
 use Rattle.refusals.specs.Answers.{verdictOf}
 use Rattle.refusals.specs.declared.Verdict.{Verdict}
 use Rattle.refusals.specs.declared.Verdict.the-variants as verdict

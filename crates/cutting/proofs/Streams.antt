@@ -8,9 +8,9 @@ use native.Mathlib.Omega.{arith}
 use lib.ListN.{length, drop, drop-of-length-le}
 use Rattle.basics.specs.Basics.{keep}
 use Rattle.labelling.specs.Labels.{Label}
-use Rattle.patterns.specs.Matches.{asks}
+use Rattle.embeddings.specs.Matches.{asks}
 use Rattle.storage.specs.Store.{Element, readElement, elements}
-use Rattle.store_calls.specs.Cutting.{stream}
+use Rattle.cut_calls.specs.Cutting.{stream}
 use Rattle.basics.proofs.Scans.{from-cons}
 use Rattle.storage.proofs.Sizes.{length-elements-read}
 use Rattle.records.specs.Records.{recordAt}

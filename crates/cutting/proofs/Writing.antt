@@ -8,9 +8,9 @@ use lib.ListN.{length, take, drop}
 use lib.Seq.{take-take}
 use Rattle.basics.specs.Basics.{over}
 use Rattle.basics.specs.Limits.{labelSize, recordSize}
-use Rattle.patterns.specs.Matches.{asks, labelsWords}
+use Rattle.embeddings.specs.Matches.{asks, labelsWords}
 use Rattle.storage.specs.Store.{readElement, elements}
-use Rattle.store_calls.specs.Cutting.{stream}
+use Rattle.cut_calls.specs.Cutting.{stream}
 use Rattle.storage.proofs.Relaid.{label-back}
 use Rattle.storage.proofs.SoundStore.{label-good}
 use Rattle.records.specs.Records.{recordAt}

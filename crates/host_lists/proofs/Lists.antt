@@ -5,7 +5,7 @@ use mathlib.Core.Path.{_≡_, ap, _∙_}
 use mathlib.Core.List.{List}
 use Rattle.basics.specs.Outputs as outputs
 use Rattle.match_calls.specs.Matching.{matchCall}
-use Rattle.store_calls.specs.Cutting as cutting
+use Rattle.cut_calls.specs.Cutting as cutting
 use Rattle.refusals.specs.Answers.{Filled, filled, listingOf}
 use Rattle.refusals.specs.declared.Listing.{Listing}
 use Rattle.table_bytes.specs.Rows.{tableIn}

@@ -3,7 +3,7 @@ use answers::tell;
 use table_bytes::table_in;
 ghost use mathlib.Core.Path.{_≡_};
 ghost use Rattle.match_calls.specs.Matching.{matchCall};
-ghost use Rattle.store_calls.specs.Cutting as cutting;
+ghost use Rattle.cut_calls.specs.Cutting as cutting;
 ghost use Rattle.table_bytes.specs.Rows.{tableIn};
 ghost use Rattle.answers.specs.Reports.{report};
 ghost use Rattle.host_lists.specs.Calls.{listingReport};

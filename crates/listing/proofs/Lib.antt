@@ -1,10 +1,1 @@
-pub mod Lows
-pub mod Rows
-pub mod Keeping
-pub mod Progress
-pub mod Widths
-pub mod Walking
-pub mod Lasts
-pub mod Deeper
-pub mod Turns
 pub mod Tops

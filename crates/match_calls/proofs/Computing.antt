@@ -2,7 +2,7 @@
 use Rattle.match_calls.specs.Matching.{labelsIn, dealt, inStream, streamCheck, labelsCheck, streamsCheck, matchesOf, matchRefusal, matchCall}
 use Rattle.match_calls.specs.Examples.{listedFor, matchChecks}
 use Rattle.match_calls.specs.RefusalChecks.{oneTwig, matchRefusals}
-use Rattle.patterns.proofs.Computing.{computing as below}
+use Rattle.embeddings.proofs.Computing.{computing as below}
 
 -- `unfolding computing` opens them all
 unfoldable pub computing : Unit {0}

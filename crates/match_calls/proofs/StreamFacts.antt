@@ -21,7 +21,7 @@ use Rattle.basics.proofs.Tests.{eqb-alike, decide}
 use Rattle.basics.proofs.Lists.{all-at}
 use Rattle.labelling.proofs.LabelWords.{IsLabel, isLabel-iff}
 use Rattle.basics.proofs.Refusals.{check-failed, check-passed, first-next, first-here}
-use Rattle.patterns.proofs.Asking.{fits-iff}
+use Rattle.embeddings.proofs.Asking.{fits-iff}
 use Rattle.match_calls.proofs.StreamChecks.{Later, inStream-iff}
 
 -- the facts that 15, 16, name and order ask of words in a stream, after the label before them

@@ -7,7 +7,8 @@ use Rattle.basics.specs.Outputs.{Listing}
 use Rattle.basics.specs.Examples.{Check, is, shown}
 use Rattle.naming.specs.Examples.{shortTable}
 use Rattle.labelling.specs.Labels.{Label}
-use Rattle.patterns.specs.Examples.{garageTwig, axles, curves, garageMatches, inWords}
+use Rattle.patterns.specs.Examples.{garageTwig}
+use Rattle.embeddings.specs.Examples.{axles, curves, garageMatches, inWords}
 use Rattle.match_calls.specs.Matching.{matchCall}
 
 -- what matching under the bench's table answers and leaves, in one list

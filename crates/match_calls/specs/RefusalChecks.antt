@@ -6,7 +6,7 @@ use Rattle.basics.specs.Limits.{noParent}
 use Rattle.basics.specs.Examples.{Check, is, shown}
 use Rattle.naming.specs.Examples.{tornTable, lineTable}
 use Rattle.patterns.specs.Twigs.{descendantEdge}
-use Rattle.patterns.specs.Matches.{labelsWords}
+use Rattle.embeddings.specs.Matches.{labelsWords}
 use Rattle.match_calls.specs.Matching.{matchCall}
 
 -- a twig that asks for name 1

@@ -13,7 +13,7 @@ use Rattle.basics.specs.Limits.{labelSize, maxElements}
 use Rattle.basics.specs.Refusals.{Refusal, first, check}
 use Rattle.naming.specs.Names.{cluesOf}
 use Rattle.patterns.specs.Twigs.{readTwig, twigCheck, wanted, leafNames}
-use Rattle.patterns.specs.Matches.{matchWords}
+use Rattle.embeddings.specs.Matches.{matchWords}
 use Rattle.basics.specs.Outputs.{listed, roomCheck}
 use Rattle.match_calls.specs.Matching.{labelsCheck, matchesOf, matchRefusal, matchCall}
 use Rattle.basics.proofs.Refusals.{first-here, first-rest, first-last, first-next}

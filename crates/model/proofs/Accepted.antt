@@ -9,17 +9,17 @@ use Rattle.naming.specs.Names.{cluesOf}
 use Rattle.labelling.specs.Labels.{Label, same, labelOf, decodeCall}
 use Rattle.patterns.specs.Twigs.{readTwig}
 use Rattle.store_calls.specs.Updates.{Answer}
-use Rattle.store_calls.specs.Cutting.{fullList}
-use Rattle.model.specs.Book.{moved, Book, Line, Call, answer, deletion, entry, bookAfter, childLine}
+use Rattle.cut_calls.specs.Cutting.{fullList}
+use Rattle.book.specs.Book.{moved, Book, Line, Call, answer, deletion, entry, bookAfter, childLine}
 use Rattle.model.specs.Demand3.{Next, Accepted, DeletionHolds, EntryHolds}
 use Rattle.basics.proofs.Tests.{is-false, is-true}
 use Rattle.basics.proofs.Lists.{here, there}
 use Rattle.labelling.proofs.LabelOrder.{same-alike}
 use Rattle.labelling.proofs.LabelCalls.{decode-call}
 use Rattle.patterns.proofs.TwigBytes.{accepted-twig}
-use Rattle.model.proofs.InOrder.{lineAt-mem, struck-iff}
-use Rattle.model.proofs.Calls.{Ready}
-use Rattle.model.proofs.Answers.{parent, deletion-found, refused-alike, deletion-book, refused-holds, num, deletion-answer, entry-answer, entry-book, entry-length, entry-good}
+use Rattle.book.proofs.InOrder.{lineAt-mem, struck-iff}
+use Rattle.book.proofs.Calls.{Ready}
+use Rattle.book.proofs.Answers.{parent, deletion-found, refused-alike, deletion-book, refused-holds, num, deletion-answer, entry-answer, entry-book, entry-length, entry-good}
 use Rattle.model.proofs.Streams.{deletion-matches, entry-matches}
 
 -- a line with another label is not moved

@@ -11,15 +11,15 @@ use Rattle.naming.specs.Names.{cluesOf}
 use Rattle.labelling.specs.Numbers.{number, articleNumber}
 use Rattle.labelling.specs.Labels.{Label}
 use Rattle.store_calls.specs.Updates.{given}
-use Rattle.model.specs.Book.{lineElement, opened, called, Book, bookWords, deletion, Call, answer, bookAfter, givenOut, entry}
-use Rattle.model.specs.Claims.{NothingDeleted, ArticleNumbers, lastBelow}
+use Rattle.book.specs.Book.{lineElement, opened, called, Book, bookWords, deletion, Call, answer, bookAfter, givenOut, entry, lastBelow}
+use Rattle.model.specs.Claims.{NothingDeleted, ArticleNumbers}
 use Rattle.naming.proofs.NameTables.{placed-at}
 use Rattle.labelling.proofs.Article.{article-first, article-agrees}
 use Rattle.labelling.proofs.LabelWords.{labelOf-labelWords}
-use Rattle.model.proofs.InOrder.{lineAt-mem, labels, labels-moved}
-use Rattle.model.proofs.Calls.{Ready}
-use Rattle.model.proofs.Answers.{entry-answer, entry-book, refused-holds}
-use Rattle.model.proofs.Run.{left, given-refused}
+use Rattle.book.proofs.InOrder.{lineAt-mem, labels, labels-moved}
+use Rattle.book.proofs.Calls.{Ready}
+use Rattle.book.proofs.Answers.{entry-answer, entry-book, refused-holds}
+use Rattle.book.proofs.Run.{left, given-refused}
 
 -- the number given below a line is the article's after the number given last
 pub article-numbers : ArticleNumbers

@@ -12,7 +12,7 @@ use Rattle.naming.specs.Names.{cluesOf}
 use Rattle.labelling.specs.Labels.{decodeCall, kinshipCall, followsCall, decodeRefusal, labelOf, Decoding, labelCheck, namesIn, Decoded, decode, path, stuck}
 use Rattle.store_calls.specs.Updates.{delete, enter, newStore}
 use Rattle.basics.specs.Outputs.{listed}
-use Rattle.store_calls.specs.Cutting.{cut, cutRefusal}
+use Rattle.cut_calls.specs.Cutting.{cut, cutRefusal}
 use Rattle.match_calls.specs.Matching.{matchCall, matchRefusal}
 use Rattle.model.specs.Demand1.{Demand1}
 use Rattle.basics.proofs.Refusals.{first-none, check-none, refused-is}

@@ -16,17 +16,17 @@ use Rattle.basics.proofs.Lists.{for-cons}
 use Rattle.labelling.proofs.LabelOrder.{above-snoc}
 use Rattle.labelling.proofs.Decode.{path-length}
 use Rattle.patterns.proofs.TwigBytes.{accepted-twig}
-use Rattle.patterns.proofs.Matches.{matches-ascending, matches-iff}
-use Rattle.patterns.proofs.Paths.{path-solutions}
-use Rattle.patterns.proofs.MatchSizes.{match-words}
+use Rattle.embeddings.proofs.Matches.{matches-ascending, matches-iff}
+use Rattle.embeddings.proofs.Paths.{path-solutions}
+use Rattle.embeddings.proofs.MatchSizes.{match-words}
 use Rattle.storage.proofs.Sizes.{size-iff, length-elements-read}
 use Rattle.storage.proofs.Faults.{sound-check}
 use Rattle.storage.proofs.SoundStore.{store-elements, sound-root, sound-parents}
 use Rattle.match_calls.proofs.StreamChecks.{streams-accepted, streams-labels}
-use Rattle.store_calls.proofs.StreamWords.{streams-sound}
-use Rattle.store_calls.proofs.Listings.{Stored, cut-listed, match-listed}
+use Rattle.cut_calls.proofs.StreamWords.{streams-sound}
+use Rattle.cut_calls.proofs.Listings.{Stored, cut-listed, match-listed}
 use Rattle.basics.proofs.Outputs.{listed-whole, listed-refusal}
-use Rattle.model.proofs.Good.{snoc-root}
+use Rattle.book.proofs.Good.{snoc-root}
 use Rattle.model.proofs.Trees.{Has, Rooted, ancestor, decode-names}
 use Rattle.model.proofs.Embeddings.{full-ascending, full-embeddings}
 

@@ -9,15 +9,15 @@ use Rattle.basics.specs.Basics.{_∈_, elim?, Ascending}
 use Rattle.naming.specs.Names.{Clues}
 use Rattle.labelling.specs.Labels.{within}
 use Rattle.patterns.specs.Twigs.{Twig, GoodTwig, nodeAt, isParent, isLeaf}
-use Rattle.patterns.specs.Matches.{Match, IsMatch, asks, fits, earlier}
+use Rattle.embeddings.specs.Matches.{Match, IsMatch, asks, fits, earlier}
 use Rattle.storage.specs.Store.{Element}
-use Rattle.store_calls.specs.Cutting.{streams, fullList}
+use Rattle.cut_calls.specs.Cutting.{streams, fullList}
 use Rattle.model.specs.Trees.{Embedding}
 use Rattle.basics.proofs.Tests.{and-iff, decide}
-use Rattle.patterns.proofs.Matches.{leaf-below, matches-ascending, matches-iff}
+use Rattle.embeddings.proofs.Matches.{leaf-below, matches-ascending, matches-iff}
 use Rattle.storage.proofs.SoundStore.{SoundElements}
-use Rattle.store_calls.proofs.AskedLabels.{Asked, streams-asked}
-use Rattle.store_calls.proofs.StreamWords.{streams-sound}
+use Rattle.cut_calls.proofs.AskedLabels.{Asked, streams-asked}
+use Rattle.cut_calls.proofs.StreamWords.{streams-sound}
 use Rattle.model.proofs.Trees.{Rooted, ancestor}
 
 module _ {cl : Clues} {root : ℕ} {es : List Element} (sound : SoundElements cl root es) (t : Twig) where

@@ -18,7 +18,7 @@ use Rattle.patterns.specs.Twigs.{Twig, readTwig, nameCheck, nodeCheck, nodesChe
 use Rattle.match_calls.specs.Matching.{streamsCheck, matchRefusal}
 use Rattle.storage.specs.Store.{Element, sizeCheck, soundCheck}
 use Rattle.store_calls.specs.Updates.{parentCheck, spaceCheck, rootStaysCheck, foundCheck, newStoreRefusal, entryRefusal, deletionRefusal}
-use Rattle.store_calls.specs.Cutting.{cutRefusal}
+use Rattle.cut_calls.specs.Cutting.{cutRefusal}
 use Rattle.printouts.specs.Printing.{storeFileCheck, bufferCheck, printRefusal}
 use Rattle.model.specs.RefusedBy.{RefusedBy, placedNumbers, fileNumbers, decodingNumbers, labelNumbers, newStoreNumbers, entryNumbers, deletionNumbers, cutNumbers, matchNumbers, printNumbers}
 use Rattle.basics.proofs.Tests.{and-iff, eqb-alike}

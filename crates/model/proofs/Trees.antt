@@ -7,7 +7,7 @@ use lib.Dec.{T}
 use Rattle.basics.specs.Basics.{_∈_, elim?}
 use Rattle.naming.specs.Names.{Clues, led}
 use Rattle.labelling.specs.Labels.{Label, within, decode, path, behind, nameAt}
-use Rattle.patterns.specs.Matches.{prefixes}
+use Rattle.embeddings.specs.Matches.{prefixes}
 use Rattle.storage.specs.Store.{Element, find, elementAt}
 use Rattle.model.specs.Trees.{namesTo}
 use Rattle.labelling.proofs.LabelOrder.{within-iff, within-self}

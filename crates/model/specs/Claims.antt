@@ -1,29 +1,17 @@
 -- What else holds over every run: when numbers run out, and how they agree with the article's.
 use mathlib.Core.Path.{_≡_}
-use mathlib.Core.Bool.{cond}
-use mathlib.Core.List.{List, [], _∷_, map}
-use mathlib.Core.Option.{Option, none, some}
+use mathlib.Core.List.{List, map}
+use mathlib.Core.Option.{none, some}
 use Prim.Native.Nat.{ℕ, _+_, _*_, _/_, _%_, _≤_}
 use lib.ListN.{length, take}
-use Rattle.basics.specs.Basics.{keep, last}
+use Rattle.basics.specs.Basics.{last}
 use Rattle.basics.specs.Limits.{maxComponent, recordSize}
 use Rattle.basics.specs.Refusals.{Refusal, noNumber}
 use Rattle.naming.specs.Names.{cluesOf, placeIn, tableCheck}
 use Rattle.labelling.specs.Numbers.{articleNumber}
 use Rattle.labelling.specs.Labels.{Label, labelOf}
-use Rattle.patterns.specs.Twigs.{childEdge}
-use Rattle.patterns.specs.Matches.{holds}
 use Rattle.store_calls.specs.Updates.{given}
-use Rattle.model.specs.Book.{Line, Book, entry, deletion, lineElement, lineAt, answer, Run, opened, called}
-
--- how many of the labels given out stand right below a label
-unfoldable pub givenBelow : Label → List Label → ℕ
-givenBelow l g = length (keep (holds childEdge l) g)
-
--- the number given out last below a label
-unfoldable pub lastBelow : Label → List Label → Option ℕ
-lastBelow l [] = none
-lastBelow l (m ∷ g) = cond (holds childEdge l m) (some (last m)) (lastBelow l g)
+use Rattle.book.specs.Book.{Line, Book, entry, deletion, lineElement, lineAt, answer, givenBelow, lastBelow, Run, opened, called}
 
 -- An entry is refused 12 only after floor(65,535 / n) accepted entries below that parent, whose clue has n names.
 abbrev pub EnoughNumbers : Type 0

@@ -10,7 +10,7 @@ use Rattle.basics.specs.Refusals.{Refusal, refused, nameAsked}
 use Rattle.naming.specs.Names.{readNames, emptyTable, tableCheck}
 use Rattle.labelling.specs.Labels.{decodeCall, kinshipCall, followsCall}
 use Rattle.store_calls.specs.Updates.{newStore, enter, delete}
-use Rattle.store_calls.specs.Cutting.{cut}
+use Rattle.cut_calls.specs.Cutting.{cut}
 use Rattle.match_calls.specs.Matching.{matchCall}
 use Rattle.printouts.specs.Printing.{printRefusal}
 use Rattle.model.specs.RefusedBy.{RefusedBy, fileNumbers, decodingNumbers, labelNumbers, newStoreNumbers, entryNumbers, deletionNumbers, cutNumbers, matchNumbers, printNumbers}

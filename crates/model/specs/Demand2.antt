@@ -11,9 +11,9 @@ use Rattle.basics.specs.Limits.{labelSize}
 use Rattle.naming.specs.Names.{Clues, cluesOf, tableCheck}
 use Rattle.labelling.specs.Labels.{Label, within, decode, path, nameAt}
 use Rattle.patterns.specs.Twigs.{Twig, twigCheck, readTwig, wanted, OneLeaf, nameCheck, leafNames}
-use Rattle.patterns.specs.Matches.{earlier, matches, Match, GoodStreams, IsMatch, PathSolution, labelsWords, matchWords}
+use Rattle.embeddings.specs.Matches.{earlier, matches, Match, GoodStreams, IsMatch, PathSolution, labelsWords, matchWords}
 use Rattle.storage.specs.Store.{Element, elements, rootOf, sizeCheck, soundCheck}
-use Rattle.store_calls.specs.Cutting.{streams, stream, cut, Cuts, fullList, cutWords}
+use Rattle.cut_calls.specs.Cutting.{streams, stream, cut, Cuts, fullList, cutWords}
 use Rattle.basics.specs.Outputs.{Listing}
 use Rattle.match_calls.specs.Matching.{streamsCheck, dealt, matchCall}
 use Rattle.model.specs.Trees.{namesTo, Embedding}

@@ -7,19 +7,20 @@ use Prim.Native.Nat.{ℕ, _+_, _-_, _*_, _≤_, _<_}
 use lib.ListN.{length, getD, take, replicate}
 use lib.Dec.{T}
 use Rattle.basics.specs.Basics.{_∈_, joined, last, over, Ascending}
-use Rattle.basics.specs.Limits.{labelSize, recordSize}
+use Rattle.basics.specs.Limits.{recordSize}
 use Rattle.basics.specs.Refusals.{Refusal}
 use Rattle.naming.specs.Names.{cluesOf, placeIn, tableCheck}
 use Rattle.labelling.specs.Numbers.{Least}
 use Rattle.labelling.specs.Labels.{Label, within, same, labelOf, labelWords, namesIn, decode, path, decodeCall}
 use Rattle.patterns.specs.Twigs.{Twig, readTwig, twigCheck, nameCheck, wanted, leafNames}
-use Rattle.patterns.specs.Matches.{Match, earlier, labelsWords, matchWords, less}
+use Rattle.embeddings.specs.Matches.{Match, earlier, labelsWords, matchWords, less}
 use Rattle.storage.specs.Store.{sizeCheck}
 use Rattle.store_calls.specs.Updates.{given, newStore}
 use Rattle.basics.specs.Outputs.{Listing}
-use Rattle.store_calls.specs.Cutting.{stream, cut, Cuts, fullList, cutWords}
+use Rattle.cut_calls.specs.Cutting.{stream, cut, Cuts, fullList, cutWords}
 use Rattle.match_calls.specs.Matching.{matchCall}
-use Rattle.model.specs.Book.{Line, Book, Call, entry, deletion, lineElement, lineAt, sooner, inOrder, bookElements, bookWords, bookRefusal, bookAfter, childLine, answer, Run, rootLine}
+use Rattle.book.specs.Book.{Line, Book, Call, entry, deletion, lineElement, lineAt, sooner, inOrder, bookElements, bookWords, bookRefusal, bookAfter, childLine, answer, Run, rootLine}
+use Rattle.book.specs.RefusedCalls.{RefusalHolds}
 use Rattle.model.specs.Trees.{Embedding}
 
 -- What holds after the list of calls.
@@ -118,13 +119,6 @@ pub record DeletionHolds (rows : List (List ℕ)) (root n : ℕ) (b after : Book
       (bytes : List ℕ) → twigCheck bytes ≡ none →
       less (within (labelOf lw)) (fullList (cluesOf rows) root (readTwig bytes) (bookElements b)) ≡
       fullList (cluesOf rows) root (readTwig bytes) (bookElements after)
-
--- What holds of a refused call: it writes nothing, and answers the count it was given and, for an entry, sixteen zeros.
-pub record RefusalHolds (rows : List (List ℕ)) (n : ℕ) (b after : Book) (slice : List ℕ) (c : Call) : Type 0 where
-  pub bookStays : after ≡ b
-  pub sliceStays : answer rows slice n c .slice ≡ slice
-  pub countStays : answer rows slice n c .count ≡ n
-  pub zeros : (lw : List ℕ) (name p0 p1 : ℕ) → c ≡ entry lw name p0 p1 → answer rows slice n c .label ≡ replicate labelSize 0
 
 -- what holds of an accepted call
 abbrev pub Accepted : List (List ℕ) → ℕ → ℕ → Book → Book → List ℕ → Call → Type 0

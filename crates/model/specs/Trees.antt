@@ -7,7 +7,7 @@ use lib.Dec.{T}
 use Rattle.basics.specs.Basics.{_∈_}
 use Rattle.labelling.specs.Labels.{Label}
 use Rattle.patterns.specs.Twigs.{Twig, nodeAt}
-use Rattle.patterns.specs.Matches.{Match, asks, hangs, prefixes}
+use Rattle.embeddings.specs.Matches.{Match, asks, hangs, prefixes}
 use Rattle.storage.specs.Store.{Element, elementAt}
 
 -- the names on the way from the root to a label: of the element at each of its prefixes, the label's own the last

@@ -1,4 +1,4 @@
--- The examples of twigs and of their matches hold.
+-- The examples of twigs hold.
 use mathlib.Core.Path.{refl}
 use Rattle.basics.specs.Examples.{Hold}
 use Rattle.patterns.specs.Examples.{patternChecks}

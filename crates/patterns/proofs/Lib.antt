@@ -1,16 +1,6 @@
--- Twigs and their matches.
+-- Twigs.
 pub mod TwigBytes
 pub mod TwigRefusals
-pub mod Asking
-pub mod Prefixes
-pub mod Closure
-pub mod MatchOrder
-pub mod Choices
-pub mod Matches
-pub mod Paths
-pub mod Deltas
-pub mod MatchWords
-pub mod MatchSizes
 -- Examples.
 pub mod Computing
 pub mod Examples

@@ -1,6 +1,5 @@
--- Twigs, and what a match is.
+-- Twigs.
 pub mod Twigs
-pub mod Matches
 -- Examples.
 pub mod Examples
 pub mod RefusalChecks

@@ -1,8 +1,8 @@
 // Prefixes of slices, for the programs that test: the first elements, all where there are fewer.
+use words::overwrite;
 ghost use mathlib.Core.Path.{_≡_};
 ghost use lib.ListN.{length, take};
 ghost use Rattle.basics.specs.Basics.{over};
-use words::overwrite;
 
 // The first words of a slice; all where there are fewer.
 pub fn front(words: &[u16], len: usize) -> &[u16]

@@ -9,9 +9,9 @@ use Rattle.basics.specs.Basics.{over, joined}
 use Rattle.basics.specs.Limits.{labelSize}
 use Rattle.labelling.specs.Labels.{Label}
 use Rattle.patterns.specs.Twigs.{Twig, leafNames}
-use Rattle.patterns.specs.Matches.{labelsWords}
+use Rattle.embeddings.specs.Matches.{labelsWords}
 use Rattle.basics.proofs.Outputs.{length-over}
-use Rattle.store_calls.proofs.StreamWords.{counted, laid}
+use Rattle.cut_calls.proofs.StreamWords.{counted, laid}
 use Rattle.words.proofs.Words.{over-middle}
 use Rattle.words.specs.Writing.{written}
 use Rattle.words.proofs.Writing.{written-over, written-after, written-one}

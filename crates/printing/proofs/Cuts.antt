@@ -11,13 +11,13 @@ use Rattle.basics.specs.Refusals.{refuse, shortOutput}
 use Rattle.naming.specs.Names.{cluesOf}
 use Rattle.labelling.specs.Labels.{Label}
 use Rattle.patterns.specs.Twigs.{nameCheck}
-use Rattle.patterns.specs.Matches.{labelsWords}
+use Rattle.embeddings.specs.Matches.{labelsWords}
 use Rattle.storage.specs.Store.{elements, rootOf}
 use Rattle.basics.specs.Outputs as outputs
-use Rattle.store_calls.specs.Cutting as model
+use Rattle.cut_calls.specs.Cutting as model
 use Rattle.basics.proofs.Refusals.{first-rest, first-last}
 use Rattle.storage.proofs.SoundStore.{SoundElements, store-elements}
-use Rattle.store_calls.proofs.StreamWords.{for-stream}
+use Rattle.cut_calls.proofs.StreamWords.{for-stream}
 use Rattle.basics.proofs.Outputs.{listed-refusal, listed-whole, room-iff}
 use Rattle.refusals.specs.Answers.{verdictOf, filled, listingOf}
 use Rattle.refusals.specs.declared.Listing.{Listing}

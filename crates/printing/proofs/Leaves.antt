@@ -13,10 +13,10 @@ use Rattle.basics.specs.Basics.{_∈_, elim?, joined}
 use Rattle.basics.specs.Limits.{maxDepth, labelSize}
 use Rattle.labelling.specs.Labels.{Label, labelWords}
 use Rattle.patterns.specs.Twigs.{Twig, nodeAt, isLeaf, wanted, leafNames}
-use Rattle.patterns.specs.Matches.{labelsWords}
-use Rattle.patterns.proofs.MatchWords.{length-labelsWords}
+use Rattle.embeddings.specs.Matches.{labelsWords}
+use Rattle.embeddings.proofs.MatchWords.{length-labelsWords}
 use Rattle.match_calls.proofs.StreamChecks.{length-wanted}
-use Rattle.store_calls.proofs.StreamWords.{laid}
+use Rattle.cut_calls.proofs.StreamWords.{laid}
 use Rattle.leaves.proofs.Leaves.{wanted-at, wanted-from}
 
 -- the leaves of two lists of records

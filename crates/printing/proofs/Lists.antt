@@ -10,17 +10,17 @@ use Rattle.basics.specs.Basics.{over}
 use Rattle.basics.specs.Limits.{labelSize}
 use Rattle.naming.specs.Names.{cluesOf}
 use Rattle.patterns.specs.Twigs.{readTwig, wanted}
-use Rattle.patterns.specs.Matches.{Match, matchWords}
+use Rattle.embeddings.specs.Matches.{Match, matchWords}
 use Rattle.basics.specs.Outputs.{roomCheck}
 use Rattle.match_calls.specs.Matching as model
 use Rattle.printouts.specs.Printing.{matchesText, refusalText, bufferCheck}
 use Rattle.basics.proofs.Refusals.{first-rest, first-last}
 use Rattle.patterns.proofs.TwigBytes.{accepted-twig}
-use Rattle.patterns.proofs.Matches.{matches-iff}
+use Rattle.embeddings.proofs.Matches.{matches-iff}
 use Rattle.match_calls.proofs.StreamChecks.{streams-labels}
 use Rattle.basics.proofs.Outputs.{listed-refusal, listed-whole}
 use Rattle.printouts.proofs.FileStores.{buffer-iff}
-use Rattle.patterns.proofs.MatchSizes.{match-short}
+use Rattle.embeddings.proofs.MatchSizes.{match-short}
 use Rattle.refusals.specs.Answers.{verdictOf, filled, listingOf}
 use Rattle.refusals.specs.declared.Listing.{Listing}
 use Rattle.refusals.specs.declared.Refusal as declared

@@ -8,7 +8,7 @@ use native.Mathlib.Omega.{arith}
 use lib.ListN.{length}
 use Rattle.basics.specs.Basics.{elim?, over}
 use Rattle.basics.specs.Refusals.{Refusal, first}
-use Rattle.patterns.specs.Matches.{Match}
+use Rattle.embeddings.specs.Matches.{Match}
 use Rattle.printouts.specs.Printing.{matchesText, refusalText}
 use Rattle.basics.proofs.Refusals.{first-rest, first-here}
 use Rattle.refusals.specs.Answers.{verdictOf, refusalOf}

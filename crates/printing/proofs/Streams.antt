@@ -12,16 +12,16 @@ use Rattle.basics.specs.Basics.{over, joined}
 use Rattle.basics.specs.Limits.{maxElements, labelSize}
 use Rattle.basics.specs.Refusals.{refuse, shortOutput}
 use Rattle.patterns.specs.Twigs.{nodeAt, readTwig, isLeaf, wanted, leafNames, nameCheck, twigCheck}
-use Rattle.patterns.specs.Matches.{labelsWords}
+use Rattle.embeddings.specs.Matches.{labelsWords}
 use Rattle.storage.specs.Store.{elements}
 use Rattle.basics.specs.Outputs as outputs
-use Rattle.store_calls.specs.Cutting as model
+use Rattle.cut_calls.specs.Cutting as model
 use Rattle.basics.proofs.Scans.{tail-is}
 use Rattle.patterns.proofs.TwigBytes.{twigCheck-iff, nameCheck-iff, readTwig-at, length-readTwig}
 use Rattle.storage.proofs.Sizes.{size-iff, length-elements-read}
-use Rattle.store_calls.proofs.StreamWords.{laid, length-stream}
+use Rattle.cut_calls.proofs.StreamWords.{laid, length-stream}
 use Rattle.match_calls.proofs.StreamChecks.{length-wanted}
-use Rattle.patterns.proofs.MatchWords.{length-labelsWords}
+use Rattle.embeddings.proofs.MatchWords.{length-labelsWords}
 use Rattle.refusals.specs.Answers.{verdictOf, filled, refusedBy, listingOf}
 use Rattle.refusals.specs.declared.Listing.{Listing}
 use Rattle.refusals.specs.declared.Refusal as declared

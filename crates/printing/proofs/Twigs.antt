@@ -15,15 +15,15 @@ use Rattle.basics.specs.Limits.{maxName, labelSize, nameWord, recordSize}
 use Rattle.basics.specs.Refusals.{badRoot}
 use Rattle.naming.specs.Names.{cluesOf, isName, rootCheck}
 use Rattle.patterns.specs.Twigs.{readTwig, wanted, leafNames, twigCheck}
-use Rattle.patterns.specs.Matches.{labelsWords}
+use Rattle.embeddings.specs.Matches.{labelsWords}
 use Rattle.storage.specs.Store.{readElement, elements, rootOf}
 use Rattle.basics.specs.Outputs.{roomCheck}
-use Rattle.store_calls.specs.Cutting.{fullList}
+use Rattle.cut_calls.specs.Cutting.{fullList}
 use Rattle.match_calls.specs.Matching.{matchesOf}
 use Rattle.printouts.specs.Printing.{refusalText, bufferCheck}
 use Rattle.basics.proofs.Refusals.{check-passed}
 use Rattle.storage.proofs.Sizes.{size-iff, length-elements-read}
-use Rattle.store_calls.proofs.StreamWords.{dealt-wanted, streams-laid, counted, laid}
+use Rattle.cut_calls.proofs.StreamWords.{dealt-wanted, streams-laid, counted, laid}
 use Rattle.refusals.specs.Answers.{verdictOf}
 use Rattle.refusals.specs.declared.Listing.{Listing}
 use Rattle.refusals.specs.declared.Refusal as declared

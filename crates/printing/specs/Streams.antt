@@ -8,9 +8,9 @@ use Rattle.basics.specs.Basics.{joined, over}
 use Rattle.naming.specs.Names.{cluesOf, tableCheck, rootCheck}
 use Rattle.labelling.specs.Labels.{Label}
 use Rattle.patterns.specs.Twigs.{readTwig, wanted, leafNames, twigCheck}
-use Rattle.patterns.specs.Matches.{labelsWords}
+use Rattle.embeddings.specs.Matches.{labelsWords}
 use Rattle.storage.specs.Store.{elements, sizeCheck, soundCheck}
-use Rattle.store_calls.specs.Cutting.{stream, streams}
+use Rattle.cut_calls.specs.Cutting.{stream, streams}
 use Rattle.match_calls.specs.Matching.{streamsCheck}
 
 -- an accepted store: its table, its size and its records

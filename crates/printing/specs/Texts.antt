@@ -8,9 +8,9 @@ use Rattle.basics.specs.Basics.{elim?, over, joined}
 use Rattle.basics.specs.Refusals.{Refusal, first}
 use Rattle.naming.specs.Names.{cluesOf}
 use Rattle.patterns.specs.Twigs.{readTwig, twigCheck}
-use Rattle.patterns.specs.Matches.{Match, labelsWords, matchWords}
+use Rattle.embeddings.specs.Matches.{Match, labelsWords, matchWords}
 use Rattle.storage.specs.Store.{elements, soundCheck, rootOf}
-use Rattle.store_calls.specs.Cutting.{streams, fullList}
+use Rattle.cut_calls.specs.Cutting.{streams, fullList}
 use Rattle.printouts.specs.Printing.{matchesText, refusalText, bufferCheck}
 use Rattle.refusals.specs.declared.Refusal as declared
 

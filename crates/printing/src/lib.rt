@@ -25,7 +25,7 @@ ghost use lib.ListN.{length};
 ghost use Rattle.basics.specs.Basics.{over};
 ghost use Rattle.naming.specs.Names.{cluesOf, tableCheck};
 ghost use Rattle.patterns.specs.Twigs.{twigCheck};
-ghost use Rattle.patterns.specs.Matches.{labelsWords};
+ghost use Rattle.embeddings.specs.Matches.{labelsWords};
 ghost use Rattle.storage.specs.Store.{sizeCheck};
 ghost use Rattle.basics.specs.Outputs.{roomCheck};
 ghost use Rattle.match_calls.specs.Matching.{matchesOf};

@@ -2,7 +2,7 @@
 use Rattle.printouts.specs.Printing.{text, digits, decimal, joinedBy, labelText, matchLine, matchesText, refusalText, fileWords, storeFileCheck, fileCount, fileElements, fileMatches, bufferCheck, printRefusal, printed}
 use Rattle.printouts.specs.Examples.{wordBytes, garageStore, garageText}
 use Rattle.printouts.specs.RefusalChecks.{printRefusals}
-use Rattle.store_calls.proofs.Computing.{computing as below}
+use Rattle.cut_calls.proofs.Computing.{computing as below}
 
 -- `unfolding computing` opens them all
 unfoldable pub computing : Unit {0}

@@ -14,20 +14,20 @@ use Rattle.basics.specs.Limits.{labelSize, maxDepth, maxBytes}
 use Rattle.basics.specs.Refusals.{Refusal, refuse, check, first, shortOutput, storeSize}
 use Rattle.labelling.specs.Labels.{Label}
 use Rattle.patterns.specs.Twigs.{Twig, readTwig, twigCheck, wanted, leafNames}
-use Rattle.patterns.specs.Matches.{matches, labelsWords, matchWords}
+use Rattle.embeddings.specs.Matches.{matches, labelsWords, matchWords}
 use Rattle.storage.specs.Store.{rootOf}
-use Rattle.store_calls.specs.Cutting.{stream, streams, fullList}
+use Rattle.cut_calls.specs.Cutting.{stream, streams, fullList}
 use Rattle.printouts.specs.Printing.{storeFileCheck, bufferCheck, fileElements, fileMatches, fileWords, printRefusal, printed}
 use Rattle.printouts.specs.Printable.{StoreLength, fileClues, fileSound, streamBytes, matchBytes, Printable, Unprintable, badNames, badLength, badRecord, badTwig, longStreams, longMatches, PrintHolds}
 use Rattle.basics.proofs.Lists.{nowhere, either-part}
 use Rattle.labelling.proofs.LabelWords.{GoodLabel}
 use Rattle.basics.proofs.Refusals.{first-none, first-some, first-rest, first-here, first-last, first-passed, last-passed, taken}
 use Rattle.patterns.proofs.TwigBytes.{accepted-twig}
-use Rattle.patterns.proofs.MatchWords.{length-labelsWords}
-use Rattle.patterns.proofs.MatchSizes.{match-words}
+use Rattle.embeddings.proofs.MatchWords.{length-labelsWords}
+use Rattle.embeddings.proofs.MatchSizes.{match-words}
 use Rattle.storage.proofs.SoundStore.{SoundElements, store-elements}
-use Rattle.store_calls.proofs.StreamWords.{for-stream, counted}
-use Rattle.store_calls.proofs.AskedLabels.{streams-asked}
+use Rattle.cut_calls.proofs.StreamWords.{for-stream, counted}
+use Rattle.cut_calls.proofs.AskedLabels.{streams-asked}
 use Rattle.printouts.proofs.FileStores.{storeFile-iff, storeFile-sized, buffer-iff}
 
 -- The streams of some records, of which a leaf has a name and an inner record none.

@@ -2,7 +2,7 @@
 use mathlib.Core.List.{List, [], _∷_}
 use Prim.Native.Nat.{ℕ, _/_, _%_}
 use Rattle.storage.specs.Store.{storeWords}
-use Rattle.store_calls.specs.RefusalChecks.{element}
+use Rattle.storage.specs.Examples.{element}
 use Rattle.printouts.specs.Printing.{text}
 
 -- words in a file, little-endian

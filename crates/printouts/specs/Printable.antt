@@ -11,7 +11,7 @@ use Rattle.basics.specs.Refusals.{Refusal, refuse, shortOutput, storeSize}
 use Rattle.naming.specs.Names.{Clues, cluesOf, fileCheck, readNames}
 use Rattle.patterns.specs.Twigs.{readTwig, twigCheck, wanted, leafNames}
 use Rattle.storage.specs.Store.{soundCheck}
-use Rattle.store_calls.specs.Cutting.{stream}
+use Rattle.cut_calls.specs.Cutting.{stream}
 use Rattle.printouts.specs.Printing.{matchesText, refusalText, fileWords, fileCount, fileElements, fileMatches, printRefusal, printed}
 
 -- the facts of 18 for a store's file: not empty, at most 64,000 bytes, a multiple of 40

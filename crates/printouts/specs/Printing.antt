@@ -13,9 +13,9 @@ use Rattle.basics.specs.Refusals.{Refusal, check, first, shortOutput, storeSize
 use Rattle.naming.specs.Names.{Clues, cluesOf, fileCheck, readNames}
 use Rattle.labelling.specs.Labels.{Label}
 use Rattle.patterns.specs.Twigs.{readTwig, twigCheck}
-use Rattle.patterns.specs.Matches.{Match, labelsWords, matchWords}
+use Rattle.embeddings.specs.Matches.{Match, labelsWords, matchWords}
 use Rattle.storage.specs.Store.{Element, elements, soundCheck, rootOf}
-use Rattle.store_calls.specs.Cutting.{streams, fullList}
+use Rattle.cut_calls.specs.Cutting.{streams, fullList}
 
 -- the bytes of a text
 unfoldable pub text : String → List ℕ

@@ -1,16 +1,36 @@
--- Examples of records.
-use mathlib.Core.List.{List, [], _∷_, _++_}
+-- Examples of records and stores.
+use mathlib.Core.Bool.{cond}
+use mathlib.Core.List.{List, [], _∷_, _++_, map}
 use Prim.Native.Nat.{ℕ}
 use lib.ListN.{replicate}
+use lib.Dec.{eqb}
+use Rattle.basics.specs.Basics.{upTo}
+use Rattle.basics.specs.Limits.{recordSize, maxDepth}
 use Rattle.basics.specs.Examples.{Check, is, shown}
 use Rattle.naming.specs.Names.{cluesOf}
 use Rattle.naming.specs.Examples.{shortTable}
 use Rattle.labelling.specs.Labels.{Label}
-use Rattle.storage.specs.Store.{Element, elementWords, rootOf, elementAt, soundCheck}
+use Rattle.storage.specs.Store.{Element, elementWords, storeWords, rootOf, elementAt, soundCheck}
 
 -- an element with a payload
 unfoldable pub elementOf : Label → ℕ → ℕ → ℕ → ℕ → Element
 elementOf l name next p0 p1 = record { label = l; name = name; next = next; payload0 = p0; payload1 = p1 }
+
+-- an element without payload
+unfoldable pub element : Label → ℕ → ℕ → Element
+element l name next = record { label = l; name = name; next = next; payload0 = 0; payload1 = 0 }
+
+-- under the loop, a store that goes down to depth 15
+unfoldable pub deepStore : List ℕ
+deepStore = storeWords (map (λ depth. element (replicate depth 0) 0 (cond (eqb depth maxDepth) 0 1)) (upTo 16)) ++ replicate recordSize 7
+
+-- and a root whose numbers are used up
+unfoldable pub usedUp : List ℕ
+usedUp = elementWords (element [] 0 65535)
+
+-- a record of nines
+unfoldable pub torn : List ℕ
+torn = replicate recordSize 9
 
 -- the root's name, a record that is unsound, and the element with a label
 unfoldable pub recordChecks : List Check

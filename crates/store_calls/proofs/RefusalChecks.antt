@@ -1,7 +1,7 @@
--- Every refusal of new store, entry, deletion and cutting at its corner is what the paper says.
+-- Every refusal of new store, entry and deletion at its corner is what the paper says.
 use mathlib.Core.Path.{refl}
 use Rattle.basics.specs.Examples.{Hold}
-use Rattle.store_calls.specs.RefusalChecks.{newStoreRefusals, entryRefusals, deletionRefusals, cutRefusals}
+use Rattle.store_calls.specs.RefusalChecks.{newStoreRefusals, entryRefusals, deletionRefusals}
 use Rattle.store_calls.proofs.Computing.{computing}
 
 -- the refusals of a new store have their numbers and places
@@ -14,12 +14,7 @@ pub entry-refusals : Hold entryRefusals
 unfolding computing
 entry-refusals = refl
 
--- those of a deletion
+-- and those of a deletion
 pub deletion-refusals : Hold deletionRefusals
 unfolding computing
 deletion-refusals = refl
-
--- and those of cutting
-pub cut-refusals : Hold cutRefusals
-unfolding computing
-cut-refusals = refl

@@ -1,6 +1,5 @@
--- The calls that write and cut.
+-- The calls that write.
 pub mod Updates
-pub mod Cutting
 -- Examples.
 pub mod RefusalChecks
 pub mod Examples

@@ -11,7 +11,7 @@ use Rattle.basics.specs.Basics.{elim?}
 use Rattle.basics.specs.Limits.{labelSize}
 use Rattle.naming.specs.Names.{Clues}
 use Rattle.labelling.specs.Labels.{Label, before, shared, Decoded, path, stuck, decode, endOf, nameAt, labelOf, isLabel}
-use Rattle.patterns.specs.Matches.{asks, fits}
+use Rattle.embeddings.specs.Matches.{asks, fits}
 use Rattle.match_calls.specs.Matching.{inStream}
 use Rattle.labelling.proofs.Kinship.{shared-alike, shared-low, shared-comm}
 use Rattle.streams.specs.Streams.{Along, leadsOn, wordsAt, labelAt, previousAt, labelBefore, standsAt}

@@ -10,7 +10,7 @@ use lib.Seq.{getD-take, getD-drop}
 use Rattle.basics.specs.Basics.{_∈_, joined}
 use Rattle.basics.specs.Limits.{maxDepth, labelSize}
 use Rattle.labelling.specs.Labels.{Label, labelOf}
-use Rattle.patterns.specs.Matches.{Match}
+use Rattle.embeddings.specs.Matches.{Match}
 use Rattle.match_calls.specs.Matching.{labelsIn}
 use Rattle.printouts.specs.Printing.{text, decimal, joinedBy, labelText, matchLine, matchesText}
 use Rattle.basics.proofs.Lists.{here, there, nowhere, for-cons, for-map, member-at}

@@ -12,11 +12,11 @@ use lib.Seq.{getD-drop, drop-at}
 use Rattle.basics.specs.Basics.{_∈_, joined}
 use Rattle.basics.specs.Limits.{maxDepth, labelSize}
 use Rattle.labelling.specs.Labels.{Label, labelWords}
-use Rattle.patterns.specs.Matches.{Match, labelsWords, matchWords}
+use Rattle.embeddings.specs.Matches.{Match, labelsWords, matchWords}
 use Rattle.basics.proofs.Lists.{here, there}
 use Rattle.labelling.proofs.LabelWords.{length-labelWords}
-use Rattle.patterns.proofs.MatchWords.{length-labelsWords, length-matchWords}
-use Rattle.store_calls.proofs.StreamWords.{labelsIn-labelsWords}
+use Rattle.embeddings.proofs.MatchWords.{length-labelsWords, length-matchWords}
+use Rattle.cut_calls.proofs.StreamWords.{labelsIn-labelsWords}
 use Rattle.texts.specs.Texts.{matchesIn, Depths}
 
 -- there are as many matches as are read

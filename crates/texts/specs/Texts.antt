@@ -3,7 +3,7 @@ use mathlib.Core.List.{List, [], _∷_, _++_}
 use Prim.Native.Nat.{ℕ, zero, suc, _+_, _*_, _<_, _≤_}
 use lib.ListN.{getD, drop}
 use Rattle.basics.specs.Limits.{maxDepth, labelSize}
-use Rattle.patterns.specs.Matches.{Match}
+use Rattle.embeddings.specs.Matches.{Match}
 use Rattle.match_calls.specs.Matching.{labelsIn}
 use Rattle.printouts.specs.Printing.{text, decimal}
 

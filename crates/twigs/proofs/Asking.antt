@@ -6,7 +6,7 @@ use lib.Dec.{leb, eqb}
 use borrow.Author.Tests.{eq-eqb, ne-eqb, le-leb, lt-leb}
 use Rattle.basics.specs.Limits.{maxName, anyName}
 use Rattle.naming.specs.Names.{isName}
-use Rattle.patterns.specs.Matches.{asks}
+use Rattle.embeddings.specs.Matches.{asks}
 
 -- a name may be asked for
 pub asked-name : (want : ℕ) → want ≤ maxName → leb want maxName ≡ (isName want || eqb want anyName)

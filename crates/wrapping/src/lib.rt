@@ -1,7 +1,7 @@
 // Arithmetic that wraps, for the programs that test: a sum, and a number of a row as a word and as a byte.
+use guards::number;
 ghost use mathlib.Core.Path.{_≡_};
 ghost use Rattle.wrapping.specs.Wrapping.{wrapped, wordAt, byteAt};
-use guards::number;
 
 // The sum of two numbers; it wraps.
 pub fn sum(a: usize, b: usize) -> usize

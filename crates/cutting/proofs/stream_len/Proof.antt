@@ -4,7 +4,7 @@ use mathlib.Core.Logic.{⊎-elim}
 use mathlib.Core.Path.{_≡_}
 use borrow.Author.Needs.{needs}
 use lib.ListN.{length}
-use Rattle.store_calls.specs.Cutting.{stream}
+use Rattle.cut_calls.specs.Cutting.{stream}
 use Rattle.storage.specs.Store.{elements}
 use Rattle.cutting.proofs.Streams.{streamFrom, count-end, count-taken, count-left}
 use Rattle.cutting.proofs.stream_len.Statement.{statement}

@@ -5,9 +5,9 @@ use mathlib.Core.Path.{_≡_}
 use borrow.Author.Needs.{needs}
 use lib.ListN.{length}
 use Rattle.basics.specs.Basics.{over}
-use Rattle.patterns.specs.Matches.{labelsWords}
+use Rattle.embeddings.specs.Matches.{labelsWords}
 use Rattle.storage.specs.Store.{elements}
-use Rattle.store_calls.specs.Cutting.{stream}
+use Rattle.cut_calls.specs.Cutting.{stream}
 use Rattle.cutting.proofs.Streams.{streamFrom, count-taken, count-left}
 use Rattle.cutting.proofs.Outputs.{written, written-from}
 use Rattle.cutting.proofs.Writing.{write-room, write-taken, write-left, write-end}

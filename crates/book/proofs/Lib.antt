@@ -1,0 +1,8 @@
+-- The book and its runs.
+pub mod InOrder
+pub mod Good
+pub mod Sound
+pub mod Placing
+pub mod Calls
+pub mod Answers
+pub mod Run

@@ -1,0 +1,4 @@
+-- Streams cut from a store.
+pub mod Cutting
+-- Examples.
+pub mod RefusalChecks
