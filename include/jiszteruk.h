@@ -3,9 +3,9 @@
  * Answers. Every call answers 0 where it is taken, else the number of its refusal. A refusal is given on its
  * stated fact and on no other, and the comment of a call lists its checks in their order: the first that fails
  * settles the number. Every call but jiszteruk_bench_table writes two words to `answer`: the place and the
- * call's value. The place is the record or pair from 0 in 2, 3, 5 to 8, 19 and 20, the component from 1 in 16,
- * otherwise 0; it is 0 too where the call is taken. The value is 0 where the comment names none, and in a
- * refusal unless the comment says otherwise.
+ * call's value. The place is the pair (2, 3), node (5 to 8), record (19) or label (20) counted from 0, or the
+ * component counted from 1 (16); in every other refusal, and where the call is taken, it is 0. The value is 0
+ * where the comment names none, and in a refusal unless the comment says otherwise.
  *
  * Slices. A slice is a pointer and its length in elements. Whatever stands in the slices is answered; no call
  * asks anything of what they hold. But the pointers are the caller's care:
@@ -29,8 +29,8 @@
  * name, the next number f, and two payload words that nothing here reads. Words past the records in use are
  * never read. Words are the machine's own; a file of records has them little-endian.
  *
- * A twig is 1 to 8 records of 4 bytes: the parent's record number (255 for record 0), the edge, the name (255
- * for any name), a zero. Leaves are the records that are nobody's parent. */
+ * A twig is 1 to 8 nodes of 4 bytes: the number of the parent (255 for node 0), the edge, the name (255 for any
+ * name), a zero. Leaves are the nodes that are nobody's parent. */
 #ifndef JISZTERUK_H
 #define JISZTERUK_H
 
@@ -49,23 +49,23 @@ extern "C" {
 #define JISZTERUK_MAX_DEPTH 15        /* the deepest level */
 #define JISZTERUK_MAX_COMPONENT 65534 /* the largest component */
 #define JISZTERUK_PATH_NAMES 16       /* the names that decoding gives, from the root to the deepest level */
-#define JISZTERUK_RECORD_WORDS 20     /* the words of a record of a store: the label, .. */
-#define JISZTERUK_RECORD_NAME 16      /* .. the place of its name, .. */
-#define JISZTERUK_RECORD_NEXT 17      /* .. of its next number .. */
-#define JISZTERUK_RECORD_PAYLOAD 18   /* .. and of the first of its two payload words */
-#define JISZTERUK_MAX_ELEMENTS 4096   /* the most records in use, and the most labels of a stream */
-#define JISZTERUK_TWIG_RECORD_BYTES 4 /* the bytes of a record of a twig */
-#define JISZTERUK_MAX_TWIG_RECORDS 8  /* the most records of a twig */
-#define JISZTERUK_ANSWER_WORDS 2      /* the words of an answer: .. */
-#define JISZTERUK_ANSWER_PLACE 0      /* .. the refusal's place .. */
-#define JISZTERUK_ANSWER_VALUE 1      /* .. and the call's value */
+#define JISZTERUK_RECORD_WORDS 20     /* the words of a record of a store; its label stands first */
+#define JISZTERUK_RECORD_NAME 16      /* the place of a record's name among its words */
+#define JISZTERUK_RECORD_NEXT 17      /* the place of a record's next number */
+#define JISZTERUK_RECORD_PAYLOAD 18   /* the place of the first of a record's two payload words */
+#define JISZTERUK_MAX_RECORDS 4096    /* the most records in use, and the most labels of a stream */
+#define JISZTERUK_NODE_BYTES 4        /* the bytes of a node of a twig */
+#define JISZTERUK_MAX_NODES 8         /* the most nodes of a twig */
+#define JISZTERUK_ANSWER_WORDS 2      /* the words of an answer: a place and a value */
+#define JISZTERUK_ANSWER_PLACE 0      /* where the refusal's place stands in an answer */
+#define JISZTERUK_ANSWER_VALUE 1      /* where the call's value stands in an answer */
 
 /* Bytes with a meaning of their own. */
 #define JISZTERUK_FILLER 255        /* fills up the rows of a table; no name */
 #define JISZTERUK_ANY_NAME 255      /* asks for any name, in a twig and in cutting */
-#define JISZTERUK_NO_PARENT 255     /* the parent of a twig's record 0 */
-#define JISZTERUK_EDGE_CHILD 0      /* exactly one level; on record 0: the root element */
-#define JISZTERUK_EDGE_DESCENDANT 1 /* one level or more; on record 0: any element */
+#define JISZTERUK_NO_PARENT 255     /* the parent of a twig's node 0 */
+#define JISZTERUK_EDGE_CHILD 0      /* exactly one level; on node 0: the root element */
+#define JISZTERUK_EDGE_DESCENDANT 1 /* one level or more; on node 0: any element */
 
 /* A call that is taken. */
 #define JISZTERUK_TAKEN 0
@@ -76,7 +76,7 @@ extern "C" {
 #define JISZTERUK_PAIR_AGAIN 3    /* a pair that stood before */
 /* The author of a twig: */
 #define JISZTERUK_TWIG_LENGTH 4 /* length 0, over 32 or not a multiple of 4 */
-#define JISZTERUK_TWIG_PARENT 5 /* record 0's parent not 255, another's not below its own number */
+#define JISZTERUK_TWIG_PARENT 5 /* node 0's parent not 255, another's not below its own number */
 #define JISZTERUK_TWIG_EDGE 6   /* an edge neither child nor descendant */
 #define JISZTERUK_NAME_ASKED 7  /* a name neither 0 to 63 nor 255, also for cutting (at 0) */
 #define JISZTERUK_TWIG_END 8    /* a fourth byte not 0 */
@@ -205,26 +205,26 @@ uint8_t jiszteruk_cut(const uint8_t *table, size_t table_len,
                       size_t *answer, size_t answer_len);
 
 /* Checks a twig.
- * Refusals: 4, then record by record 5, 6, 7, 8. */
+ * Refusals: 4, then node by node 5, 6, 7, 8. */
 uint8_t jiszteruk_check_twig(const uint8_t *twig, size_t twig_len,
                              size_t *answer, size_t answer_len);
 
-/* Matches a twig with one stream for each leaf. `counts` has the labels of each leaf's stream, leaves in record
+/* Matches a twig with one stream for each leaf. `counts` has the labels of each leaf's stream, leaves in node
  * order; in `buffer` each stream begins where the one before ended. A stream's labels are strictly ascending and
  * all decode to the leaf's name (any, for 255).
- * A match gives each twig record a label: a leaf one of its stream, an inner node any label whose decoded name
- * fits, so that every edge holds. Two records may share an element. For streams cut from a store these are the
- * embeddings into its tree. `out` gets the matches, one label of 16 words for each twig record, ordered by
- * record 0's label, then record 1's, and so on. The value is the number of matches.
- * Refusals: 22; 21; 4, then record by record 5 to 8; 20, at place 0 for counts not one per leaf, one over 4,096,
- * or a buffer not 16 times their sum long, and only then at the first label, counted over the whole buffer, that
- * 15, 16, name or order rules out; 17. */
-uint8_t jiszteruk_match(const uint8_t *table, size_t table_len, uint8_t root,
-                        const uint8_t *twig, size_t twig_len,
-                        const size_t *counts, size_t counts_len,
-                        const uint16_t *buffer, size_t buffer_len,
-                        uint16_t *out, size_t out_len,
-                        size_t *answer, size_t answer_len);
+ * A match gives each node of the twig a label: a leaf one of its stream, an inner node any label whose decoded name
+ * fits, so that every edge holds. Two nodes may share an element. For streams cut from a store these are the
+ * embeddings into its tree. `out` gets the matches, one label of 16 words for each node, ordered by node 0's label,
+ * then node 1's, and so on. The value is the number of matches.
+ * Refusals: 22; 21; 4, then node by node 5 to 8; 20, at place 0 for counts not one per leaf, one over 4,096, or a
+ * buffer not 16 times their sum long, and only then at the first label, counted over the whole buffer, that 15, 16,
+ * name or order rules out; 17. */
+uint8_t jiszteruk_match_twig(const uint8_t *table, size_t table_len, uint8_t root,
+                             const uint8_t *twig, size_t twig_len,
+                             const size_t *counts, size_t counts_len,
+                             const uint16_t *buffer, size_t buffer_len,
+                             uint16_t *out, size_t out_len,
+                             size_t *answer, size_t answer_len);
 
 #ifdef __cplusplus
 }

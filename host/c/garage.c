@@ -38,7 +38,7 @@ static int taken(uint8_t number)
     return number == JISZTERUK_TAKEN;
 }
 
-/* For the calls that this program can't do without. */
+/* Ends the program where a call that it can't do without is refused. */
 static void must(uint8_t number)
 {
     if (!taken(number))
@@ -113,7 +113,7 @@ static void print_store(void)
     }
 }
 
-/* Asks for each vehicle with an axle and a curve somewhere below it. The leaves are records 1 and 2, so the axles'
+/* Asks for each vehicle with an axle and a curve somewhere below it. The leaves are nodes 1 and 2, so the axles'
  * stream stands first in the buffer and the curves' behind it. */
 static void ask(void)
 {
@@ -122,7 +122,7 @@ static void ask(void)
         0, JISZTERUK_EDGE_DESCENDANT, AXLE, 0,
         0, JISZTERUK_EDGE_DESCENDANT, CURVE, 0,
     };
-    enum { NODES = sizeof twig / JISZTERUK_TWIG_RECORD_BYTES, LEAVES = 2, ROOM = LEAVES * RECORDS * JISZTERUK_LABEL_WORDS };
+    enum { NODES = sizeof twig / JISZTERUK_NODE_BYTES, LEAVES = 2, ROOM = LEAVES * RECORDS * JISZTERUK_LABEL_WORDS };
     static uint16_t streams[ROOM], matches[MATCHES * NODES * JISZTERUK_LABEL_WORDS];
     size_t counts[LEAVES];
     printf("//vehicle[//axle]//curve: ");
@@ -130,8 +130,8 @@ static void ask(void)
     size_t axles = counts[0] * JISZTERUK_LABEL_WORDS;
     counts[1] = cut(CURVE, streams + axles, ROOM - axles);
     size_t all = axles + counts[1] * JISZTERUK_LABEL_WORDS;
-    must(jiszteruk_match(table, sizeof table, GARAGE, twig, sizeof twig, counts, LEAVES, streams, all,
-                         matches, sizeof matches / sizeof *matches, answer, JISZTERUK_ANSWER_WORDS));
+    must(jiszteruk_match_twig(table, sizeof table, GARAGE, twig, sizeof twig, counts, LEAVES, streams, all,
+                              matches, sizeof matches / sizeof *matches, answer, JISZTERUK_ANSWER_WORDS));
     size_t n = answer[JISZTERUK_ANSWER_VALUE];
     printf("%zu axles, %zu curves, %zu matches\n", counts[0], counts[1], n);
     for (size_t i = 0; i < n * NODES; i++) {

@@ -1,4 +1,5 @@
-# What the scripts need, for `source`: a script stops with a clear line where it is missing and can't be had. It sets `script` to its name.
+# What the scripts need, for `source`: a script stops with a clear line where something is missing and can't be had.
+# The script that sources this sets `script` to its name.
 
 # Stops with a reason.
 stop() {
@@ -14,12 +15,14 @@ need() {
     [ "$(id -u)" -eq 0 ] || stop "no $command; install Debian's $*, or run this as root"
     command -v apt-get >/dev/null || stop "no $command, and no apt-get to install Debian's $*"
     log=$(mktemp)
-    { apt-get install -y "$@" || { apt-get update && apt-get install -y "$@"; }; } >"$log" 2>&1 || { tail -20 "$log" >&2; stop "Debian's $* can't be installed"; }
+    { apt-get install -y "$@" || { apt-get update && apt-get install -y "$@"; }; } >"$log" 2>&1 ||
+        { tail -20 "$log" >&2; stop "Debian's $* can't be installed"; }
     rm "$log"
     command -v "$command" >/dev/null || stop "Debian's $* has brought no $command"
 }
 
-# The library, built where it is missing or older than its sources, from the repository's root: the archives of the crates with calls for C, joined.
+# The library, built from the repository's root where it is missing or older than its sources: the archives of the
+# crates with calls for C, joined.
 library=target/staticlib/libhost.a
 library_crates='host_tables host_checks host_labels host_stores host_lists'
 need_library() {

@@ -23,12 +23,12 @@ module _ (ws : List ℕ) (good : isLabel ws ≡ true) where
   own-words : labelWords (labelOf ws) ≡ ws
   own-words = labelWords-labelOf ws (rw good tt)
 
-  -- the first is its depth
+  -- the first word of a label is its depth
   pub label-depth : getD ws 0 0 ≡ length (labelOf ws)
   unfolding labelWords
   label-depth = ap (λ s. getD s 0 0) (sym own-words)
 
--- a component written behind a label, and the depth
+-- a component written behind a label, and the depth raised, give the child's label
 child-words : (l : Label) (x : ℕ) → length l < maxDepth → set (set (labelWords l) 0 (length l + 1)) (length l + 1) x ≡ labelWords (l ++ (x ∷ []))
 unfolding labelWords
 child-words l x h =
@@ -40,7 +40,7 @@ child-words l x h =
     ap (λ k. set ((length l + 1) ∷ (l ++ replicate (maxDepth - length l) 0)) k x) (add-one (length l)) ∙
     ap₂ _∷_ (sym n) (f ∙ sym (append-assoc l (x ∷ []) z) ∙ ap (λ k. l ++ (x ∷ []) ++ replicate (maxDepth - k) 0) (sym n))
 
--- the parent's words copied, the depth and the component written
+-- the parent's words copied, the depth and the component written, are the child's label
 pub label-child : (ws : List ℕ) (x : ℕ) → isLabel ws ≡ true → getD ws 0 0 < maxDepth → {to : List ℕ} → to ≡ over ws (replicate labelSize 0) →
     set (set to 0 (getD ws 0 0 + 1)) (getD ws 0 0 + 1) x ≡ labelWords (labelOf ws ++ (x ∷ []))
 unfolding over
@@ -50,7 +50,7 @@ label-child ws x good h p =
     ap (λ n. ws ++ drop n (replicate labelSize 0)) (label-sixteen ws good) ∙ append-nil ws ∙ sym (own-words ws good) in
     ap₂ (λ s n. set (set s 0 (n + 1)) (n + 1) x) (p ∙ same) depth ∙ child-words (labelOf ws) x (omega arith)
 
--- a label's words copied over those of the root's
+-- the words of a label copied over those of the root's record give the child's record
 pub record-child : (label : List ℕ) (name p0 p1 : ℕ) → length label ≡ labelSize → {rec to : List ℕ} → rec ≡ elementWords (rootElement name p0 p1) →
     to ≡ over label rec → to ≡ label ++ (name ∷ 0 ∷ p0 ∷ p1 ∷ [])
 unfolding elementWords labelWords over

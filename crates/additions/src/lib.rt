@@ -17,8 +17,8 @@ ghost use Rattle.basics.specs.Limits.{labelSize, recordSize};
 ghost use Rattle.labelling.specs.Labels.{labelOf, labelWords, isLabel};
 ghost use Rattle.storage.specs.Store.{readElement, elements};
 ghost use Rattle.records.specs.Records.{recordAt};
-ghost use Rattle.lookup.specs.Places.{placeAt, Searchable};
-ghost use Rattle.additions.specs.Answers.{refusedEntry, entered, childWritten, childAdded};
+ghost use Rattle.lookup.specs.Places.{placeAt, InLabelOrder};
+ghost use Rattle.additions.specs.Answers.{refusedEntry, entryAndWords, childWritten, childAdded};
 
 // What an entry answers: the verdict, the count and the new label.
 pub struct Entry {
@@ -27,7 +27,7 @@ pub struct Entry {
     pub label: [u16; 16],
 }
 
-// An entry refused: the count as it was given and sixteen zeros.
+// The answer of a refused entry: the count as it was given, and sixteen zeros.
 pub fn refused(verdict: Verdict, count: usize) -> Entry
     ensures { λ r. ⌜ r ≡ refusedEntry verdict count ⌝ }
 {
@@ -38,7 +38,7 @@ pub fn refused(verdict: Verdict, count: usize) -> Entry
     }
 }
 
-// A child's label: the parent's and a component.
+// The label of a child: its parent's and one component more.
 fn child_label(parent: &[u16], x: u16) -> [u16; 16]
     requires { ⌜ (isLabel (now parent) ≡ true) × (getD (now parent) 0 0 < 15) ⌝ }
     ensures { λ r. ⌜ r ≡ labelWords (labelOf (now (parent .entry)) ++ (x ∷ [])) ⌝ }
@@ -51,14 +51,14 @@ fn child_label(parent: &[u16], x: u16) -> [u16; 16]
     label
 }
 
-// The words of a label, lent.
+// The words of a label as a slice.
 fn label_words(label: &[u16; 16]) -> &[u16]
     ensures { λ r. ⌜ (now r ≡ now (label .entry)) × (length (now r) ≡ labelSize) ⌝ }
 {
     label
 }
 
-// A child's record: the root's with another label.
+// The record of a child: the root's with another label.
 fn child_record(label: &[u16], name: u8, payload: [u16; 2]) -> [u16; 20]
     requires { ⌜ length (now label) ≡ labelSize ⌝ }
     ensures { λ r. ⌜ r ≡ now (label .entry) ++ (name ∷ 0 ∷ getD payload 0 0 ∷ getD payload 1 0 ∷ []) ⌝ }
@@ -68,9 +68,10 @@ fn child_record(label: &[u16], name: u8, payload: [u16; 2]) -> [u16; 20]
     rec
 }
 
-// A record put in behind the subtree of a label, which the record a has: the number after x becomes its next number.
+// Puts a record in behind the subtree of a label, which the record a
+// has, and makes the number after x the next number of that record.
 fn write_child(words: &mut [u16], count: usize, a: usize, label: &[u16], x: u16, rec: &[u16])
-    requires { ⌜ Searchable count (now words) × (a < count) × (recordSize * (count + 1) ≤ length (now words)) × (x ≤ 65534) × (length (now rec) ≡ recordSize) ⌝ }
+    requires { ⌜ InLabelOrder count (now words) × (a < count) × (recordSize * (count + 1) ≤ length (now words)) × (x ≤ 65534) × (length (now rec) ≡ recordSize) ⌝ }
     ensures { λ r. ⌜ now (words .exit) ≡ childWritten (now (words .entry)) count a (now (label .entry)) x (now (rec .entry)) ⌝ }
 {
     let end = subtree_end(words, count, label);
@@ -78,7 +79,7 @@ fn write_child(words: &mut [u16], count: usize, a: usize, label: &[u16], x: u16,
     insert(words, end, count, rec);
 }
 
-// A child with a number put in below the record a, which has the label `parent`. 13.
+// Puts a child with a number in below the record a, which has the label `parent`: 13.
 pub fn add_child(
     words: &mut [u16],
     count: usize,
@@ -88,8 +89,8 @@ pub fn add_child(
     name: u8,
     payload: [u16; 2],
 ) -> Entry
-    requires { ⌜ Searchable count (now words) × (isLabel (now parent) ≡ true) × (placeAt (labelOf (now parent)) (elements count (now words)) ≡ some a) × (length (readElement (recordAt a (now words)) .label) < 15) × (x ≤ 65534) ⌝ }
-    ensures { λ r. ⌜ entered r (now (words .exit)) ≡ childAdded (now (words .entry)) count a (labelOf (now (parent .entry))) x name (getD payload 0 0) (getD payload 1 0) ⌝ }
+    requires { ⌜ InLabelOrder count (now words) × (isLabel (now parent) ≡ true) × (placeAt (labelOf (now parent)) (elements count (now words)) ≡ some a) × (length (readElement (recordAt a (now words)) .label) < 15) × (x ≤ 65534) ⌝ }
+    ensures { λ r. ⌜ entryAndWords r (now (words .exit)) ≡ childAdded (now (words .entry)) count a (labelOf (now (parent .entry))) x name (getD payload 0 0) (getD payload 1 0) ⌝ }
 {
     let size = Store {
         words: words.len(),

@@ -5,7 +5,7 @@ use Rattle.basics.specs.Refusals.{check, first, reply}
 use Rattle.basics.specs.Outputs.{listed, roomCheck}
 use Rattle.basics.specs.Examples.{shown, told, basicChecks, limits, numbers}
 
--- `unfolding computing` opens them all
+-- `unfolding computing` opens every definition named here
 unfoldable pub computing : Unit {0}
 unfolding flatMap elim? all keep joined upTo total stands last over check first reply listed roomCheck shown told basicChecks limits numbers
 computing = tt

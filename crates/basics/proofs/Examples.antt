@@ -6,7 +6,7 @@ use Rattle.basics.specs.Basics.{upTo}
 use Rattle.basics.specs.Examples.{Hold, basicChecks, limits, numbers}
 use Rattle.basics.proofs.Computing.{computing}
 
--- the definitions give what the paper says
+-- of lists and outputs the definitions give what the paper says
 pub basic-checks : Hold basicChecks
 unfolding computing
 basic-checks = refl

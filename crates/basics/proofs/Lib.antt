@@ -1,12 +1,13 @@
--- Tests, orders, lists, checks, outputs.
+-- Laws of tests, orders, lists, checks and outputs.
 pub mod Tests
 pub mod Zeros
 pub mod Orders
 pub mod Lists
 pub mod Scans
+pub mod Leading
 pub mod Ranges
 pub mod Refusals
 pub mod Outputs
--- Examples.
+-- Examples that the checker works through.
 pub mod Computing
 pub mod Examples

@@ -10,17 +10,17 @@ use lib.Dec.{T, ltb, ltb→lt, lt→ltb}
 use Rattle.basics.specs.Basics.{lex}
 use Rattle.basics.proofs.Tests.{or-iff, and-iff, Alike}
 
--- a strict total order
+-- a strict total order: no member before itself, a chain, and of two members one before the other or both equal
 pub record Order {A : Type 0} (less : A → A → Bool) : Type 0 where
   pub never : (a : A) → T (less a a) → ⊥
   pub chain : (a b c : A) → T (less a b) → T (less b c) → T (less a c)
   pub total : (a b : A) → T (less a b) ⊎ (a ≡ b) ⊎ T (less b a)
 
--- an order in which no two come before each other
+-- an order in which no two members come before each other
 pub record OneWay {A : Type 0} (less : A → A → Bool) : Type 0 where
   pub asym : (a b : A) → T (less a b) → T (less b a) → ⊥
 
--- a strict total order is one
+-- in a strict total order no two members come before each other
 pub one-way : {A : Type 0} {less : A → A → Bool} → Order less → OneWay less
 one-way o = record { asym = λ a b h k. o .never a (o .chain a b a h k) }
 
@@ -41,7 +41,7 @@ module _ {A : Type 0} (less same : A → A → Bool) (alike : Alike same) where
     lex-never [] h = h
     lex-never (a ∷ l) h = ⊎-elim (o .never a) (λ k. lex-never l (k .1)) (lex-iff a a l l .0 h)
 
-    -- what comes before a list that comes before another comes before that
+    -- a list before another comes before whatever the other comes before
     lex-chain : (l m n : List A) → T (lex less same l m) → T (lex less same m n) → T (lex less same l n)
     lex-chain [] [] n h k = absurd h
     lex-chain [] (b ∷ m) [] h k = k
@@ -73,7 +73,7 @@ module _ {A : Type 0} (less same : A → A → Bool) (alike : Alike same) where
         go (inr (inl p)) (inr (inr q)) = inr (inr (lex-iff b a m l .1 (inr (sym p, q))))
         go (inr (inr p)) q = inr (inr (lex-iff b a m l .1 (inl p)))
 
-    -- comparing lists by an order of their elements is an order
+    -- comparing lists by a strict total order of their members is a strict total order
     pub lex-order : Order (lex less same)
     lex-order = record { never = lex-never; chain = lex-chain; total = lex-total }
 

@@ -15,7 +15,7 @@ use Rattle.basics.specs.Basics.{_∈_, all, upTo, Ascending, none-left, 
 use Rattle.basics.proofs.Tests.{and-iff}
 use Rattle.basics.proofs.Lists.{here, nowhere, only-one, either-part, append-ascending, all-snoc}
 
--- there are n numbers below n
+-- the list of the numbers below n has n members
 pub length-upTo : (n : ℕ) → length (upTo n) ≡ n
 unfolding upTo
 length-upTo zero = refl
@@ -31,7 +31,7 @@ map-upTo f d (suc n) i h =
     (λ p. List·getD-append (map f (upTo n)) (f n ∷ []) d i (omega arith) ∙ map-upTo f d n i p)
     (λ p. let e : i ≡ n = omega arith in rw e (getD-at (map f (upTo n)) (f n) [] d n long)))
 
--- the numbers below n are those of their list
+-- the members of the list up to n are the numbers below n
 pub upTo-iff : (n d : ℕ) → d ∈ upTo n ↔ (d < n)
 unfolding upTo
 upTo-iff zero d = (λ h. absurd (nowhere h), λ h. absurd (not-suc-le-zero h))
@@ -40,14 +40,14 @@ upTo-iff (suc n) d = (
   λ h. by-cases (decLt d n) (λ l. Memᴰ·append-left (n ∷ []) (upTo-iff n d .1 l)) (λ l. Memᴰ·append-right (upTo n) (here (omega arith))),
 )
 
--- the numbers below n ascend
+-- the list of the numbers below n is ascending
 pub upTo-ascending : (n : ℕ) → Ascending ltb (upTo n)
 unfolding upTo
 upTo-ascending zero = none-left
 upTo-ascending (suc n) = append-ascending (upTo-ascending n) (one-more (λ b k. absurd (nowhere k)) none-left)
     (λ a b p q. rw (only-one q) (lt→ltb a n (upTo-iff n a .0 p)))
 
--- the numbers below n pass a test
+-- all numbers of the list up to n pass a test exactly if every number below n does
 pub all-upTo : (f : ℕ → Bool) (n : ℕ) → T (all f (upTo n)) ↔ ((i : ℕ) → i < n → T (f i))
 unfolding upTo all
 all-upTo f zero = (λ h i p. absurd (not-suc-le-zero p), λ h. tt)

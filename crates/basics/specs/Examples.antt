@@ -1,10 +1,10 @@
--- Examples: what one is, and those of lists and outputs; the numbers that document 01 fixes.
+-- What an example is, the examples of lists and outputs, and the numbers that document 01 fixes.
 use mathlib.Core.Path.{_≡_}
 use mathlib.Core.List.{List, [], _∷_, map}
 use mathlib.Core.Option.{Option, none, some}
 use Prim.Native.Nat.{ℕ}
 use Rattle.basics.specs.Basics.{joined, total}
-use Rattle.basics.specs.Limits.{filler, maxName, noParent, recordSize, tableSize, maxFile, maxComponent, maxDepth, anyName, maxElements, labelSize, nodeSize, maxTwig, maxBytes, nameWord, nextWord, payloadWord}
+use Rattle.basics.specs.Limits.{filler, maxName, noParent, recordSize, tableSize, maxFile, maxComponent, maxDepth, anyName, maxRecords, labelSize, nodeSize, maxTwig, maxBytes, nameWord, nextWord, payloadWord}
 use Rattle.basics.specs.Refusals.{Refusal, Reply, value, refused, refuse, reply, fileLength, nameTooHigh, pairAgain, twigLength, twigParent, twigEdge, nameAsked, twigEnd, noRecord, notInClue, tooDeep, noNumber, noSpace, rootStays, notLabel, emptyClue, shortOutput, storeSize, unsound, badStream, badRoot, badTable}
 use Rattle.basics.specs.Outputs.{roomCheck}
 
@@ -23,6 +23,7 @@ pub record Check : Type 0 where
   pub computed : List ℕ
   pub expected : List ℕ
 
+-- the check that the first list given is the second
 abbrev pub is : List ℕ → List ℕ → Check
 is a b = record { computed = a; expected = b }
 
@@ -30,7 +31,7 @@ is a b = record { computed = a; expected = b }
 abbrev pub Hold : List Check → Type 0
 Hold cs = map (λ c. c .computed) cs ≡ map (λ c. c .expected) cs
 
--- lists and outputs
+-- the examples of lists and outputs
 unfoldable pub basicChecks : List Check
 basicChecks =
     -- lists stand one after the other, and every number counts
@@ -44,14 +45,15 @@ basicChecks =
     ∷ is (shown (roomCheck (8 ∷ 9 ∷ []) (7 ∷ []))) (17 ∷ 0 ∷ [])
     ∷ []
 
--- the limits are the paper's
+-- the limits that the paper fixes, in the order of their definitions
 unfoldable pub limits : List ℕ
 limits =
-    maxName ∷ tableSize ∷ filler ∷ maxFile ∷ maxComponent ∷ maxDepth ∷ maxElements ∷ labelSize ∷
+    maxName ∷ tableSize ∷ filler ∷ maxFile ∷ maxComponent ∷ maxDepth ∷ maxRecords ∷ labelSize ∷
     recordSize ∷ nameWord ∷ nextWord ∷ payloadWord ∷ nodeSize ∷ maxTwig ∷ anyName ∷ noParent ∷ maxBytes ∷ []
 
--- the numbers are 1 to 22
+-- the numbers of the refusals, in the order of their definitions
 unfoldable pub numbers : List ℕ
 numbers =
-    fileLength ∷ nameTooHigh ∷ pairAgain ∷ twigLength ∷ twigParent ∷ twigEdge ∷ nameAsked ∷ twigEnd ∷ noRecord ∷ notInClue ∷ tooDeep ∷ noNumber ∷ noSpace ∷
+    fileLength ∷ nameTooHigh ∷ pairAgain ∷ twigLength ∷ twigParent ∷ twigEdge ∷ nameAsked ∷ twigEnd ∷
+    noRecord ∷ notInClue ∷ tooDeep ∷ noNumber ∷ noSpace ∷
     rootStays ∷ notLabel ∷ emptyClue ∷ shortOutput ∷ storeSize ∷ unsound ∷ badStream ∷ badRoot ∷ badTable ∷ []

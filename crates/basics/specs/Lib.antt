@@ -3,5 +3,5 @@ pub mod Basics
 pub mod Limits
 pub mod Refusals
 pub mod Outputs
--- Examples.
+-- Examples that the checker works through.
 pub mod Examples

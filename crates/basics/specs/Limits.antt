@@ -17,17 +17,17 @@ filler = 255
 abbrev pub maxFile : ℕ
 maxFile = 8192
 
--- largest component
+-- the largest component of a label
 abbrev pub maxComponent : ℕ
 maxComponent = 65534
 
--- deepest level
+-- the deepest level of a label
 abbrev pub maxDepth : ℕ
 maxDepth = 15
 
--- most elements of a store, and most labels of a stream
-abbrev pub maxElements : ℕ
-maxElements = 4096
+-- the most elements of a store, and the most labels of a stream
+abbrev pub maxRecords : ℕ
+maxRecords = 4096
 
 -- the words of a label outside the store
 abbrev pub labelSize : ℕ
@@ -41,30 +41,30 @@ recordSize = 20
 abbrev pub nameWord : ℕ
 nameWord = 16
 
--- word 17 is the next number f
+-- word 17 of a record is the next number f
 abbrev pub nextWord : ℕ
 nextWord = 17
 
--- words 18 and 19 are the payload
+-- words 18 and 19 of a record are the payload
 abbrev pub payloadWord : ℕ
 payloadWord = 18
 
--- the bytes of a twig record
+-- the bytes of a twig's node
 abbrev pub nodeSize : ℕ
 nodeSize = 4
 
--- a twig has at most eight records
+-- a twig has at most eight nodes
 abbrev pub maxTwig : ℕ
 maxTwig = 32
 
--- in a twig or in cutting, 255 asks for any name
+-- in a twig or in cutting, the name 255 asks for any name
 abbrev pub anyName : ℕ
 anyName = 255
 
--- record 0 of a twig has 255 for its parent's number
+-- node 0 of a twig has 255 for its parent's number
 abbrev pub noParent : ℕ
 noParent = 255
 
--- the bytes of the store's file, of the program's stream buffer and of its match buffer, each at most
+-- the most bytes of the store's file, of the program's stream buffer and of its match buffer
 abbrev pub maxBytes : ℕ
 maxBytes = 64000

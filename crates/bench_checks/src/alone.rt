@@ -90,7 +90,7 @@ pub fn given(row: &[usize]) {
     give(number(row, 1), number(row, 2), next);
 }
 
-// file LENGTH FILLING BYTE..: the check of a child-name file, and how long the clue of name 0 is in the table read from it.
+// file LENGTH FILLER BYTE..: the check of a child-name file, and how long name 0's clue is in the table read from it.
 pub fn file(row: &[usize]) {
     let filling = octet(row, 2);
     let mut bytes = [filling; MANY_BYTES];
@@ -126,7 +126,7 @@ pub fn label(row: &[usize]) {
     verdict(check_label(front(&words, number(row, 1))));
 }
 
-// Sixteen names.
+// The sixteen names of a path, shown in turn.
 fn say_names(names: &[u8]) {
     let mut i: usize = 0;
     while i < 16 {
@@ -181,7 +181,7 @@ pub fn order(row: &[usize]) {
     }
 }
 
-// query LENGTH: the check of a twig whose records all ask for name 0 as a child of the first.
+// query LENGTH: the check of a twig whose nodes all ask for name 0 as a child of the first.
 pub fn query(row: &[usize]) {
     let mut twig = [0u8; 64];
     twig[0] = 255;

@@ -24,13 +24,14 @@ const FIRST_AND_LAST: usize = 2;
 
 const ALL: usize = 3;
 
-// The parent of this number is the last record.
+// The number of a parent that stands for the last record.
 const LAST_RECORD: usize = 99;
 
 // The first place of a row with a parent.
 const PAIRS: usize = 8;
 
-// Where the parent of an entry stands: the root, the last record, or one of the records from the start on, which count from 1.
+// Where the parent of an entry stands: the root, the last record, or one of the records from the start on, which are
+// counted from 1.
 fn parent_at(p: usize, start: usize, count: usize) -> usize {
     if p == 0 {
         return 0;

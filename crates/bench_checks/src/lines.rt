@@ -1,4 +1,5 @@
-// A line of the cases: what is printed first, a bar, and a call by its first letter with its numbers. A line without a bar is a comment.
+// A line of the cases: what is printed first, a bar, and a call by its first letter with its numbers. A line without a
+// bar is a comment.
 use crate::alone::below;
 use crate::alone::file;
 use crate::alone::given;

@@ -1,4 +1,5 @@
-// The paper's checks of names, labels, stores and matching, run and printed. The cases are the lines of the file `stdin`.
+// The paper's checks of names, labels, stores and matching, run and printed. The cases are the lines of the file
+// `stdin`.
 mod alone;
 mod cars;
 mod growth;

@@ -112,7 +112,8 @@ fn match_by(row: &[usize], words: &[u16], out: &mut [u16]) -> Listing {
     )
 }
 
-// match TABLE ROOT LENGTH AT BYTE AT WORD ROOM COUNT..: matching with one byte of the twig and one word of the streams changed.
+// match TABLE ROOT LENGTH AT BYTE AT WORD ROOM COUNT..: matching with one byte of the twig and one word of the streams
+// changed.
 pub fn matching(row: &[usize], words: &[u16]) {
     let was = [OLD; MATCH_ROOM];
     let mut out = [OLD; MATCH_ROOM];

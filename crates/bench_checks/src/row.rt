@@ -15,7 +15,7 @@ pub fn put_words(row: &[usize], from: usize, many: usize, words: &mut [u16]) {
     }
 }
 
-// Names 0 to 63, in a row of a table that has no filling.
+// Names 0 to 63, in a row of a table that has no filler.
 fn all_names() -> [u8; 64] {
     let mut names = [0u8; 64];
     let mut i: u8 = 0;
@@ -26,7 +26,8 @@ fn all_names() -> [u8; 64] {
     names
 }
 
-// A table: 0 the bench's, 1 that with an entry that is no name, 2 name 0 below itself, 3 all names below the first and the last.
+// A table: 0 the bench's, 1 the bench's with an entry that is no name, 2 name 0 below itself, 3 all names below the
+// first and the last.
 pub fn table(kind: usize) -> Table {
     let mut t = bench_table();
     if kind == 1 {

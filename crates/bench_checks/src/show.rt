@@ -9,7 +9,7 @@ pub fn say(text: &[u8]) {
     io::write_all(1, text);
 }
 
-// A number.
+// A number in decimal.
 pub fn say_number(n: usize) {
     io::print_decimal(1, n as u64);
 }

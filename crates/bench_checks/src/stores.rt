@@ -34,7 +34,7 @@ const CHANGES: usize = 6;
 
 // Where word w of record r stands.
 pub fn spot(r: usize, w: usize) -> usize {
-    if Store::MAX_ELEMENTS < r {
+    if Store::MAX_RECORDS < r {
         return LARGEST;
     }
     sum(r * Store::RECORD_WORDS, w)
@@ -83,7 +83,7 @@ pub fn outcome(v: Verdict, count: usize, words: &[u16], was: &[u16]) {
     }
 }
 
-// new FILLING WORDS ROOT: a new store, over words that are all the same.
+// new FILLER WORDS ROOT: a new store, over words that are all the same.
 pub fn begin(row: &[usize], words: &mut [u16]) {
     let filling = half(row, 1);
     let was = [filling; LARGEST];

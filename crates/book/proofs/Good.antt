@@ -16,7 +16,7 @@ use Rattle.labelling.specs.Numbers.{Least}
 use Rattle.labelling.specs.Labels.{Label, shared, within, same, decode, path, isComponent}
 use Rattle.patterns.specs.Twigs.{childEdge}
 use Rattle.embeddings.specs.Matches.{holds}
-use Rattle.book.specs.Book.{Line, Book, rootLine, childLine, entryBook, struck, moved, givenBelow, lastBelow}
+use Rattle.book.specs.Book.{Line, Book, NewElement, rootLine, childLine, entryBook, struck, moved, givenBelow, lastBelow}
 use Rattle.basics.proofs.Tests.{Tells, passes, fails, and-iff, is-true, is-false}
 use Rattle.basics.proofs.Lists.{here, there, here-or-there, nowhere, only-one, for-cons, for-map, all-snoc, last-snoc}
 use Rattle.labelling.proofs.LabelOrder.{within-iff, within-chain, same?, snoc-parent, snoc-last}
@@ -25,33 +25,33 @@ use Rattle.labelling.proofs.Decode.{decode-child, path-names}
 use Rattle.labelling.proofs.LabelWords.{GoodLabel}
 use Rattle.book.proofs.InOrder.{Apart, labels, labels-moved, struck-iff, struck-apart}
 
--- a line by itself
+-- a good line: its label is one and decodes to its path, and its next number is 0 where nothing may stand below
 pub record GoodLine (cl : Clues) (root : ℕ) (x : Line) : Type 0 where
   pub labelled : GoodLabel (x .label)
   pub decodes : decode cl root (x .label) ≡ path (x .names)
   pub childless : length (cl (last (x .names))) ≡ 0 → x .next ≡ 0
   pub deepest : length (x .label) ≡ maxDepth → x .next ≡ 0
 
--- the lines of a book b, and the labels g given out
+-- a good book b, beside the labels g given out
 pub record Good (cl : Clues) (root : ℕ) (b : Book) (g : List Label) : Type 0 where
   pub rootIsName : root ≤ maxName
   pub lines : (x : Line) → x ∈ b → GoodLine cl root x
   pub apart : Apart (labels b)
-  -- the line above a line stands too
+  -- the parent's line of a line stands too
   pub parents : (x : Line) → x ∈ b → (p : Label) (c : ℕ) → x .label ≡ p ++ (c ∷ []) → (y : Line) × y ∈ b × (y .label ≡ p)
-  -- every number given below a standing line is below its next number
+  -- every number given below a standing line is less than the line's next number
   pub below : (x : Line) → x ∈ b → (c : ℕ) → x .label ++ (c ∷ []) ∈ g → c < x .next
-  -- the label of a standing line was given, and so was what a given label stands below
+  -- the label of a standing line was given out, and so was the parent of every label given out
   pub givenLines : (x : Line) → x ∈ b → x .label ∈ g
   pub givenParents : (p : Label) (c : ℕ) → p ++ (c ∷ []) ∈ g → p ∈ g
-  -- no label was given twice
+  -- no label was given out twice
   pub once : Apart g
-  -- a next number is at most as many rounds up as labels were given below
+  -- a next number is at most as many rounds up as labels were given out below
   pub rounds : (x : Line) → x ∈ b → x .next ≤ givenBelow (x .label) g * length (cl (last (x .names)))
-  -- a next number is one above the number given last below, 0 where none was
+  -- a next number is one above the number given out last below, and 0 where none was
   pub lastGiven : (x : Line) → x ∈ b → x .next ≡ elim? (lastBelow (x .label) g) 0 (λ y. y + 1)
 
--- no child is the root
+-- the label of a child is not the root's
 pub snoc-root : (p : Label) (c : ℕ) → p ++ (c ∷ []) ≡ [] → ⊥
 snoc-root p c e = omega (arith, length-append p (c ∷ []), ap length e)
 
@@ -73,7 +73,7 @@ good-opening cl root p0 p1 h = record {
 }
 
 module _ {cl : Clues} {root : ℕ} {b : Book} {g : List Label} (good : Good cl root b g) where
-  -- what a given label goes on from was given
+  -- every label that a given label goes on from was given out
   pub prefix-given : (t p : Label) → p ++ t ∈ g → p ∈ g
   prefix-given [] p m = Memᴰ·cast (sym (append-nil p)) m
   prefix-given (c ∷ t) p m = good .givenParents p c (prefix-given t (p ++ (c ∷ [])) (Memᴰ·cast (append-assoc p (c ∷ []) t) m))
@@ -103,7 +103,7 @@ good-deletion {b = b} l good = record {
   lastGiven = λ x m. good .lastGiven x (struck-iff l b x .0 m .0);
 }
 
--- where no label was given below, none was given last
+-- where no label was given out below another, no number was given out last below it
 none-below : (l : Label) (g : List Label) → ((c : ℕ) → l ++ (c ∷ []) ∈ g → ⊥) → lastBelow l g ≡ none
 unfolding lastBelow
 none-below l [] h = refl
@@ -112,35 +112,35 @@ none-below l (m ∷ g) h = rw (is-false (holds childEdge l m) not-right-above) (
     not-right-above : T (holds childEdge l m) → ⊥
     not-right-above t = let (c, e) = child-iff l m .0 t in h c (here (sym e))
 
--- the number num suits an entry of a name below the line x
-pub record Suits (cl : Clues) (x : Line) (name num : ℕ) : Type 0 where
+-- the number num suits the entry of a new element below the line x
+pub record Suits (cl : Clues) (x : Line) (new : NewElement) (num : ℕ) : Type 0 where
   pub place : ℕ
-  pub placed : placeIn name (cl (last (x .names))) ≡ some place
+  pub placed : placeIn (new .name) (cl (last (x .names))) ≡ some place
   pub least : Least (length (cl (last (x .names)))) place (x .next) num
   pub room : num ≤ maxComponent
-  pub leads : led (cl (last (x .names))) num ≡ some name
+  pub leads : led (cl (last (x .names))) num ≡ some (new .name)
   pub clue : 0 < length (cl (last (x .names)))
   pub deep : length (x .label) < maxDepth
   pub round : (m : ℕ) → x .next ≤ m * length (cl (last (x .names))) → num < suc m * length (cl (last (x .names)))
 
 -- an entry below the line x, given the number num, keeps the book good
-module _ {cl : Clues} {root : ℕ} {b : Book} {g : List Label} (good : Good cl root b g) {x : Line} (stands : x ∈ b) {name num : ℕ}
-    (suits : Suits cl x name num) where
-  -- the new label was not given before
+module _ {cl : Clues} {root : ℕ} {b : Book} {g : List Label} (good : Good cl root b g) {x : Line} (stands : x ∈ b) {new : NewElement} {num : ℕ}
+    (suits : Suits cl x new num) where
+  -- the label of the new line was not given out before
   pub fresh : x .label ++ (num ∷ []) ∈ g → ⊥
   fresh m = omega (arith, good .below x stands num m, suits .least .high)
 
   -- the new line is good
-  newLine : (p0 p1 : ℕ) → GoodLine cl root (childLine x num name p0 p1)
+  newLine : GoodLine cl root (childLine x num new)
   unfolding isComponent
-  newLine p0 p1 = record {
+  newLine = record {
     labelled =
         let up = good .lines x stands .labelled in
         record {
           shallow = omega (arith, length-append (x .label) (num ∷ []));
           small = rw all-snoc (and-iff (all isComponent (x .label)) (leb num maxComponent) .1 (up .small, le→leb num maxComponent (suits .room)));
         };
-    decodes = decode-child cl root (x .label) (x .names) num name (good .lines x stands .decodes) (suits .leads);
+    decodes = decode-child cl root (x .label) (x .names) num (new .name) (good .lines x stands .decodes) (suits .leads);
     childless = λ e. refl;
     deepest = λ e. refl;
   }
@@ -213,54 +213,53 @@ module _ {cl : Clues} {root : ℕ} {b : Book} {g : List Label} (good : Good cl r
           λ h. let (c, e) = child-iff (y .label) _ .0 h in n (sym (snoc-parent (x .label) (y .label) num c e)) in
           rw (is-false (holds childEdge (y .label) (x .label ++ (num ∷ []))) apart) (good .lastGiven y m)
 
-  module _ (p0 p1 : ℕ) where
-    -- what holds of the new line and of the moved ones holds of all
-    each : (P : Line → Type 0) → P (childLine x num name p0 p1) → ((y : Line) → y ∈ b → P (moved (x .label) (num + 1) y)) →
-        (z : Line) → z ∈ entryBook b x num name p0 p1 → P z
-    each P p q = for-cons P p (for-map (moved (x .label) (num + 1)) P b q)
+  -- what holds of the new line and of the moved ones holds of all
+  each : (P : Line → Type 0) → P (childLine x num new) → ((y : Line) → y ∈ b → P (moved (x .label) (num + 1) y)) →
+      (z : Line) → z ∈ entryBook b x num new → P z
+  each P p q = for-cons P p (for-map (moved (x .label) (num + 1)) P b q)
 
-    -- the moved lines are lines of the book after it
-    moved-mem : {y : Line} → y ∈ b → moved (x .label) (num + 1) y ∈ entryBook b x num name p0 p1
-    moved-mem m = there (Memᴰ·map (moved (x .label) (num + 1)) m)
+  -- the moved lines stand in the book after the entry
+  moved-mem : {y : Line} → y ∈ b → moved (x .label) (num + 1) y ∈ entryBook b x num new
+  moved-mem m = there (Memᴰ·map (moved (x .label) (num + 1)) m)
 
-    -- the line above a line stands after it too
-    parent-after : (z : Line) → z ∈ entryBook b x num name p0 p1 → (p : Label) (c : ℕ) → z .label ≡ p ++ (c ∷ []) →
-        (y : Line) × y ∈ entryBook b x num name p0 p1 × (y .label ≡ p)
-    unfolding moved
-    parent-after =
-        each (λ z. (p : Label) (c : ℕ) → z .label ≡ p ++ (c ∷ []) → (y : Line) × y ∈ entryBook b x num name p0 p1 × (y .label ≡ p))
-        (λ p c e. (moved (x .label) (num + 1) x, moved-mem stands, snoc-parent (x .label) p num c e))
-        (λ y m p c e. let (z, k, f) = good .parents y m p c e in (moved (x .label) (num + 1) z, moved-mem k, f))
+  -- the parent's line of a line stands after the entry too
+  parent-after : (z : Line) → z ∈ entryBook b x num new → (p : Label) (c : ℕ) → z .label ≡ p ++ (c ∷ []) →
+      (y : Line) × y ∈ entryBook b x num new × (y .label ≡ p)
+  unfolding moved
+  parent-after =
+      each (λ z. (p : Label) (c : ℕ) → z .label ≡ p ++ (c ∷ []) → (y : Line) × y ∈ entryBook b x num new × (y .label ≡ p))
+      (λ p c e. (moved (x .label) (num + 1) x, moved-mem stands, snoc-parent (x .label) p num c e))
+      (λ y m p c e. let (z, k, f) = good .parents y m p c e in (moved (x .label) (num + 1) z, moved-mem k, f))
 
-    -- nothing was given below the new label
-    not-below-new : (c : ℕ) → x .label ++ (num ∷ []) ++ (c ∷ []) ∈ (x .label ++ (num ∷ [])) ∷ g → ⊥
-    not-below-new c k =
-        ⊎-elim (λ e. omega (arith, ap length e, length-append (x .label ++ (num ∷ [])) (c ∷ [])))
-        (λ k. fresh (good .givenParents (x .label ++ (num ∷ [])) c k)) (here-or-there k)
+  -- no label was given out below the new one
+  not-below-new : (c : ℕ) → x .label ++ (num ∷ []) ++ (c ∷ []) ∈ (x .label ++ (num ∷ [])) ∷ g → ⊥
+  not-below-new c k =
+      ⊎-elim (λ e. omega (arith, ap length e, length-append (x .label ++ (num ∷ [])) (c ∷ [])))
+      (λ k. fresh (good .givenParents (x .label ++ (num ∷ [])) c k)) (here-or-there k)
 
-    -- no number was given last below it
-    nothing-last : 0 ≡ elim? (lastBelow (x .label ++ (num ∷ [])) ((x .label ++ (num ∷ [])) ∷ g)) 0 (λ y. y + 1)
-    unfolding elim?
-    nothing-last = rw (none-below (x .label ++ (num ∷ [])) ((x .label ++ (num ∷ [])) ∷ g) not-below-new)
+  -- no number was given out last below the new label
+  nothing-last : 0 ≡ elim? (lastBelow (x .label ++ (num ∷ [])) ((x .label ++ (num ∷ [])) ∷ g)) 0 (λ y. y + 1)
+  unfolding elim?
+  nothing-last = rw (none-below (x .label ++ (num ∷ [])) ((x .label ++ (num ∷ [])) ∷ g) not-below-new)
 
-    -- each label stands once after it
-    apart-after : Apart (labels (entryBook b x num name p0 p1))
-    apart-after = rw labels-moved
-        (for-map (λ (y : Line). y .label) (λ m. x .label ++ (num ∷ []) ≡ m → ⊥) b (λ y h e. fresh (Memᴰ·cast e (good .givenLines y h))), good .apart)
+  -- no two lines have the same label after the entry
+  apart-after : Apart (labels (entryBook b x num new))
+  apart-after = rw labels-moved
+      (for-map (λ (y : Line). y .label) (λ m. x .label ++ (num ∷ []) ≡ m → ⊥) b (λ y h e. fresh (Memᴰ·cast e (good .givenLines y h))), good .apart)
 
-    -- the book after the entry is good
-    pub good-entry : Good cl root (entryBook b x num name p0 p1) ((x .label ++ (num ∷ [])) ∷ g)
-    unfolding moved
-    good-entry = record {
-      rootIsName = good .rootIsName;
-      lines = each (GoodLine cl root) (newLine p0 p1) movedLine;
-      apart = apart-after;
-      parents = parent-after;
-      below = each (λ z. (c : ℕ) → z .label ++ (c ∷ []) ∈ (x .label ++ (num ∷ [])) ∷ g → c < z .next) (λ c k. absurd (not-below-new c k)) movedBelow;
-      givenLines = each (λ z. z .label ∈ (x .label ++ (num ∷ [])) ∷ g) (here refl) (λ y m. there (good .givenLines y m));
-      givenParents = λ p c m. there (
-          ⊎-elim (λ e. Memᴰ·cast (snoc-parent p (x .label) c num e) (good .givenLines x stands)) (good .givenParents p c) (here-or-there m));
-      once = (λ m k e. fresh (Memᴰ·cast e k), good .once);
-      rounds = each (λ z. z .next ≤ givenBelow (z .label) ((x .label ++ (num ∷ [])) ∷ g) * length (cl (last (z .names)))) zero-le movedRounds;
-      lastGiven = each (λ z. z .next ≡ elim? (lastBelow (z .label) ((x .label ++ (num ∷ [])) ∷ g)) 0 (λ y. y + 1)) nothing-last movedLast;
-    }
+  -- the book after the entry is good
+  pub good-entry : Good cl root (entryBook b x num new) ((x .label ++ (num ∷ [])) ∷ g)
+  unfolding moved
+  good-entry = record {
+    rootIsName = good .rootIsName;
+    lines = each (GoodLine cl root) newLine movedLine;
+    apart = apart-after;
+    parents = parent-after;
+    below = each (λ z. (c : ℕ) → z .label ++ (c ∷ []) ∈ (x .label ++ (num ∷ [])) ∷ g → c < z .next) (λ c k. absurd (not-below-new c k)) movedBelow;
+    givenLines = each (λ z. z .label ∈ (x .label ++ (num ∷ [])) ∷ g) (here refl) (λ y m. there (good .givenLines y m));
+    givenParents = λ p c m. there (
+        ⊎-elim (λ e. Memᴰ·cast (snoc-parent p (x .label) c num e) (good .givenLines x stands)) (good .givenParents p c) (here-or-there m));
+    once = (λ m k e. fresh (Memᴰ·cast e k), good .once);
+    rounds = each (λ z. z .next ≤ givenBelow (z .label) ((x .label ++ (num ∷ [])) ∷ g) * length (cl (last (z .names)))) zero-le movedRounds;
+    lastGiven = each (λ z. z .next ≡ elim? (lastBelow (z .label) ((x .label ++ (num ∷ [])) ∷ g)) 0 (λ y. y + 1)) nothing-last movedLast;
+  }

@@ -15,7 +15,7 @@ use Rattle.basics.proofs.Orders.{OneWay}
 use Rattle.basics.proofs.Lists.{here, there, here-or-there, nowhere, for-cons, for-map, map-iff, keep-iff, keep-ascending, map-ascending, ascending-unique}
 use Rattle.labelling.proofs.LabelOrder.{before-order, before-one-way, same?}
 
--- each label stands once
+-- no label of a list stands twice
 abbrev pub Apart : List Label → Type 0
 Apart [] = Unit {0}
 Apart (l ∷ ls) = ((m : Label) → m ∈ ls → l ≡ m → ⊥) × Apart ls
@@ -24,15 +24,15 @@ Apart (l ∷ ls) = ((m : Label) → m ∈ ls → l ≡ m → ⊥) × Apart ls
 abbrev pub labels : Book → List Label
 labels b = map (λ x. x .label) b
 
--- a line's label is a label of the book
+-- the label of a line of a book is a label of the book
 label-mem : {x : Line} {b : Book} → x ∈ b → x .label ∈ labels b
 label-mem m = Memᴰ·map (λ x. x .label) m
 
--- no two lines come before each other
+-- no two lines come before each other in label order
 sooner-one-way : OneWay sooner
 sooner-one-way = record { asym = λ x y. before-one-way .asym (x .label) (y .label) }
 
--- inserting adds the line and nothing else
+-- inserting a line adds that line and nothing else
 insert-iff : (x : Line) (s : Book) (y : Line) → y ∈ insertLine x s ↔ y ∈ x ∷ s
 unfolding insertLine
 insert-iff x [] y = (λ m. m, λ m. m)
@@ -56,7 +56,7 @@ inOrder-iff (x ∷ b) y =
       λ m. all .1 (⊎-elim here (λ k. there (below .1 k)) (here-or-there m)),
     )
 
--- inserting adds one
+-- inserting a line makes a book one line longer
 length-insert : (x : Line) (s : Book) → length (insertLine x s) ≡ suc (length s)
 unfolding insertLine
 length-insert x [] = refl
@@ -66,13 +66,13 @@ length-insert x (z ∷ s) = go (sooner x z) (length-insert x s)
     go true e = refl
     go false e = ap suc e
 
--- there are as many
+-- a book in label order has as many lines as the book
 pub length-inOrder : (b : Book) → length (inOrder b) ≡ length b
 unfolding inOrder
 length-inOrder [] = refl
 length-inOrder (x ∷ b) = length-insert x (inOrder b) ∙ ap suc (length-inOrder b)
 
--- inserting a line whose label is new keeps the order
+-- inserting a line whose label is new keeps the label order
 insert-ascending : (x : Line) {s : Book} → ((y : Line) → y ∈ s → x .label ≡ y .label → ⊥) → Ascending sooner s → Ascending sooner (insertLine x s)
 unfolding insertLine
 insert-ascending x new none-left = one-more (λ y m. absurd (nowhere m)) none-left
@@ -87,7 +87,7 @@ insert-ascending x new (one-more {a = z} {more = s} h a) = go (insert-ascending 
         (one-more h a)
     go below false p q = one-more (λ y m. for-cons (λ y. T (sooner z y)) (q (λ t. t)) h y (insert-iff x s y .0 m)) below
 
--- where each label stands once the lines in label order are ascending
+-- where no label stands twice, the lines in label order are ascending
 pub inOrder-ascending : (b : Book) → Apart (labels b) → Ascending sooner (inOrder b)
 unfolding inOrder
 inOrder-ascending [] a = none-left
@@ -97,7 +97,7 @@ inOrder-ascending (x ∷ b) a = insert-ascending x (λ y m. a .0 (y .label) (lab
 in-order : (b : Book) → Apart (labels b) → {s : Book} → Ascending sooner s → ((y : Line) → y ∈ s ↔ y ∈ b) → s ≡ inOrder b
 in-order b a up e = ascending-unique sooner-one-way up (inOrder-ascending b a) (λ y. (λ m. inOrder-iff b y .1 (e y .0 m), λ m. e y .1 (inOrder-iff b y .0 m)))
 
--- a label has the same line in either order
+-- a label's line is found alike in a book with a line inserted and in one with that line in front
 lineAt-insert : (l : Label) (x : Line) (s : Book) → ((y : Line) → y ∈ s → x .label ≡ y .label → ⊥) → lineAt l (insertLine x s) ≡ lineAt l (x ∷ s)
 unfolding insertLine lineAt
 lineAt-insert l x [] new = refl
@@ -114,7 +114,7 @@ lineAt-insert l x (z ∷ s) new = go (sooner x z) (lineAt-insert l x s (λ y m. 
     go true ih = refl
     go false ih = ap (cond (same (z .label) l) (some z)) ih ∙ swap (lineAt l s) _ _ (same? (x .label) l) (same? (z .label) l)
 
--- so the book in label order has the same line at a label
+-- a label's line is found alike in a book and in the book in label order
 pub lineAt-inOrder : (l : Label) (b : Book) → Apart (labels b) → lineAt l (inOrder b) ≡ lineAt l b
 unfolding inOrder lineAt
 lineAt-inOrder l [] a = refl
@@ -133,7 +133,7 @@ lineAt-mem l (z ∷ b) x e = go (same (z .label) l) (same? (z .label) l) e (line
     go true (passes h) e ih = let f : x ≡ z = cc in (here f, ap (λ (x : Line). x .label) f ∙ h)
     go false h e ih = (there (ih e .0), ih e .1)
 
--- a label that has a line is found
+-- a label that some line has is found
 pub lineAt-found : (b : Book) (y : Line) → y ∈ b → (x : Line) × (lineAt (y .label) b ≡ some x)
 unfolding lineAt
 lineAt-found [] y m = absurd (nowhere m)
@@ -145,13 +145,13 @@ lineAt-found (z ∷ b) y m = go (same (z .label) (y .label)) (same? (z .label) (
     go false (fails n) (inl e) ih = absurd (n (ap (λ (x : Line). x .label) (sym e)))
     go false h (inr m) ih = ih m
 
--- moving a next number leaves the labels
+-- moving a next number leaves the labels of a book as they were
 pub labels-moved : (l : Label) (f : ℕ) (b : Book) → labels (map (moved l f) b) ≡ labels b
 unfolding moved
 labels-moved l f [] = refl
 labels-moved l f (x ∷ b) = ap (_∷_ (x .label)) (labels-moved l f b)
 
--- and so the order
+-- moving a next number and putting in order give the same in either order
 pub inOrder-moved : (l : Label) (f : ℕ) (b : Book) → Apart (labels b) → inOrder (map (moved l f) b) ≡ map (moved l f) (inOrder b)
 unfolding moved
 inOrder-moved l f b a =
@@ -165,7 +165,7 @@ struck-iff l b y =
     let kept = keep-iff (λ x. not (within l (x .label))) b y in
     (λ m. (kept .0 m .0, T-not (within l (y .label)) (kept .0 m .1)), λ m. kept .1 (m .0, not-T (within l (y .label)) (m .1)))
 
--- labels that stand once do so after a deletion
+-- labels of which none stands twice do so after a deletion
 pub struck-apart : (l : Label) (b : Book) → Apart (labels b) → Apart (labels (struck l b))
 unfolding struck keep
 struck-apart l [] a = tt
@@ -179,7 +179,7 @@ struck-apart l (x ∷ b) a = go (not (within l (x .label))) (struck-apart l b (a
     )
     go false below = below
 
--- striking and putting in order change places
+-- striking lines and putting in order give the same in either order
 pub struck-inOrder : (l : Label) (b : Book) → Apart (labels b) → struck l (inOrder b) ≡ inOrder (struck l b)
 unfolding struck
 struck-inOrder l b a = in-order (struck l b) (struck-apart l b a) (keep-ascending _ (inOrder-ascending b a)) (λ y. (

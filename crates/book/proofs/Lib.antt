@@ -1,4 +1,4 @@
--- The book and its runs.
+-- Laws of the book and of its runs.
 pub mod InOrder
 pub mod Good
 pub mod Sound

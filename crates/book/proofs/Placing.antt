@@ -1,4 +1,5 @@
--- Placing a new record after its parent's subtree is inserting its line in label order; deleting records is striking lines.
+-- Placing a new record after its parent's subtree is inserting its line in label order;
+-- deleting records is striking lines.
 use mathlib.Core.Path.{_≡_, refl, sym, ap, _∙_}
 use mathlib.Core.Bool.{Bool, true, false, cond, _||_, not}
 use mathlib.Core.List.{List, [], _∷_, _++_, map, append-assoc, Memᴰ·cast}
@@ -8,13 +9,13 @@ use Rattle.basics.specs.Basics.{_∈_, keep}
 use Rattle.naming.specs.Names.{Clues}
 use Rattle.labelling.specs.Labels.{Label, before, within}
 use Rattle.store_calls.specs.Updates.{placed, raised, without}
-use Rattle.book.specs.Book.{Line, Book, lineElement, moved, struck, insertLine, inOrder, entryBook, sooner, childLine}
+use Rattle.book.specs.Book.{Line, Book, NewElement, lineElement, moved, struck, insertLine, inOrder, entryBook, sooner, childLine}
 use Rattle.basics.proofs.Lists.{here, there, for-map, last-snoc}
 use Rattle.store_calls.proofs.Changes.{place-test}
 use Rattle.book.proofs.InOrder.{inOrder-iff, inOrder-moved}
 use Rattle.book.proofs.Good.{Good, prefix-given}
 
--- where the tests agree, placing the element is inserting the line
+-- where their tests agree, placing an element is inserting its line
 placed-insert : (l : Label) (new : Line) (s : Book) → ((y : Line) → y ∈ s → (within l (y .label) || before (y .label) l) ≡ not (sooner new y)) →
     placed l (lineElement new) (map lineElement s) ≡ map lineElement (insertLine new s)
 unfolding placed insertLine lineElement
@@ -27,7 +28,7 @@ placed-insert l new (z ∷ s) h = rw (h z (here refl)) (go (sooner new z) (place
     go true e = refl
     go false e = ap (_∷_ (lineElement z)) e
 
--- raising elements is moving lines
+-- raising elements is moving their lines
 raised-lines : (l : Label) (f : ℕ) (s : Book) → map (raised l f) (map lineElement s) ≡ map lineElement (map (moved l f) s)
 unfolding raised moved lineElement
 raised-lines l f [] = refl
@@ -45,22 +46,23 @@ without-lines l (x ∷ s) = go (not (within l (x .label))) (without-lines l s)
     go false e = e
 
 module _ {cl : Clues} {root : ℕ} {b : Book} {g : List Label} (good : Good cl root b g) where
-  -- a component that stands below a line is below its next number
+  -- a component right below a line's label is less than the line's next number
   low : (x : Line) → x ∈ b → (y : Line) → y ∈ b → (c : ℕ) (t : Label) → y .label ≡ x .label ++ (c ∷ t) → c < x .next
   low x m y k c t e = good .below x m c (prefix-given good t (x .label ++ (c ∷ []))
       (Memᴰ·cast (append-assoc (x .label) (c ∷ []) t ∙ sym e) (good .givenLines y k)))
 
   -- the elements after an entry are those of the book after it
-  pub placed-lines : (x : Line) → x ∈ b → (num name p0 p1 : ℕ) → x .next ≤ num →
-      placed (x .label) (record { label = x .label ++ (num ∷ []); name = name; next = 0; payload0 = p0; payload1 = p1 })
+  pub placed-lines : (x : Line) → x ∈ b → (num : ℕ) (new : NewElement) → x .next ≤ num →
+      placed (x .label)
+      (record { label = x .label ++ (num ∷ []); name = new .name; next = 0; payload0 = new .payload0; payload1 = new .payload1 })
       (map (raised (x .label) (num + 1)) (map lineElement (inOrder b))) ≡
-      map lineElement (inOrder (entryBook b x num name p0 p1))
+      map lineElement (inOrder (entryBook b x num new))
   unfolding inOrder lineElement moved
-  placed-lines x m num name p0 p1 h =
+  placed-lines x m num new h =
       rw (raised-lines, inOrder-moved (x .label) (num + 1) b (good .apart))
-      (ap (λ (n : ℕ). placed (x .label) (record { label = x .label ++ (num ∷ []); name = n; next = 0; payload0 = p0; payload1 = p1 })
-      (map lineElement (map (moved (x .label) (num + 1)) (inOrder b)))) (sym (last-snoc (x .names) name)) ∙
-      placed-insert (x .label) (childLine x num name p0 p1) (map (moved (x .label) (num + 1)) (inOrder b))
+      (ap (λ (n : ℕ). placed (x .label) (record { label = x .label ++ (num ∷ []); name = n; next = 0; payload0 = new .payload0; payload1 = new .payload1 })
+      (map lineElement (map (moved (x .label) (num + 1)) (inOrder b)))) (sym (last-snoc (x .names) (new .name))) ∙
+      placed-insert (x .label) (childLine x num new) (map (moved (x .label) (num + 1)) (inOrder b))
       (for-map (moved (x .label) (num + 1)) (λ y. (within (x .label) (y .label) || before (y .label) (x .label)) ≡
       not (before (x .label ++ (num ∷ [])) (y .label)))
       (inOrder b) (λ y k. place-test (x .label) num (y .label) (λ c t e. omega (arith, low x m y (inOrder-iff b y .0 k) c t e)))))

@@ -8,13 +8,13 @@ use native.Mathlib.Omega.{arith}
 use lib.ListN.{length, take}
 use lib.Dec.{leb→le, leb}
 use Rattle.basics.specs.Basics.{elim?, over, joined, last}
-use Rattle.basics.specs.Limits.{recordSize, maxName, maxElements}
+use Rattle.basics.specs.Limits.{recordSize, maxName, maxRecords}
 use Rattle.basics.specs.Refusals.{Refusal, badRoot}
-use Rattle.naming.specs.Names.{Clues, cluesOf, tableCheck, rootCheck, isName}
+use Rattle.naming.specs.Names.{Table, Clues, cluesOf, tableCheck, rootCheck, isName}
 use Rattle.labelling.specs.Labels.{Label, labelOf, labelWords, within}
 use Rattle.storage.specs.Store.{storeWords, elementWords}
 use Rattle.store_calls.specs.Updates.{Answer, newStore, newStoreRefusal}
-use Rattle.book.specs.Book.{Book, Call, bookWords, givenOut, answer, bookAfter, deletion, entry, Run, inOrder, insertLine, lineElement, opened, rootLine, called, struck, Line}
+use Rattle.book.specs.Book.{Book, NewElement, Call, bookWords, givenOut, answer, bookAfter, deletion, entry, Run, inOrder, insertLine, lineElement, opened, rootLine, called, struck, Line}
 use Rattle.basics.proofs.Lists.{length-keep}
 use Rattle.store_calls.proofs.Updates.{refusal-of}
 use Rattle.basics.proofs.Refusals.{taken, check-none, first-none}
@@ -28,36 +28,36 @@ pub record Left (cl : Clues) (root : ℕ) (w : List ℕ) (n : ℕ) (b : Book) (g
   pub counted : n ≡ length b
   pub words : w ≡ bookWords b
   pub good : Good cl root b g
-  pub few : length b ≤ maxElements
+  pub few : length b ≤ maxRecords
 
--- what an answer leaves
+-- what an answer leaves, as what a run leaves
 abbrev LeftBy : Clues → ℕ → Answer → Book → List Label → Type 0
 LeftBy cl root a = Left cl root (take (recordSize * a .count) (a .slice)) (a .count)
 
 -- a refused call gives out no label
 pub given-refused : (a : Answer) (g : List Label) (r : Refusal) (c : Call) → a .refusal ≡ some r → givenOut a c g ≡ g
 unfolding givenOut elim?
-given-refused a g r (entry lw name p0 p1) e = rw e
+given-refused a g r (entry new) e = rw e
 given-refused a g r (deletion lw) e = refl
 
-module _ {rows : List (List ℕ)} {root : ℕ} {b : Book} {g : List Label} {slice : List ℕ} (ready : Ready rows root b g slice) where
-  -- what a call leaves
+module _ {rows : Table} {root : ℕ} {b : Book} {g : List Label} {slice : List ℕ} (ready : Ready rows root b g slice) where
+  -- what a call on the slice leaves, as what a run leaves
   abbrev Leaves : Call → Type 0
   Leaves c =
       LeftBy (cluesOf rows) root (answer rows slice (length b) c) (bookAfter (cluesOf rows) b (length slice) c)
       (givenOut (answer rows slice (length b) c) c g)
 
   -- an accepted entry leaves the records of the book after it
-  entry-leaves : (lw : List ℕ) (name p0 p1 : ℕ) → answer rows slice (length b) (entry lw name p0 p1) .refusal ≡ none → Leaves (entry lw name p0 p1)
+  entry-leaves : (new : NewElement) → answer rows slice (length b) (entry new) .refusal ≡ none → Leaves (entry new)
   unfolding givenOut elim? over bookWords
-  entry-leaves lw name p0 p1 e =
-      let good = entry-good ready lw name p0 p1 e in
-      let long = entry-length ready lw name p0 p1 e in
-      rw (entry-answer ready lw name p0 p1 e, entry-book ready lw name p0 p1 e, labelOf-labelWords) (record {
+  entry-leaves new e =
+      let good = entry-good ready new e in
+      let long = entry-length ready new e in
+      rw (entry-answer ready new e, entry-book ready new e, labelOf-labelWords) (record {
         counted = sym long;
         words = rw (sym long) (take-words good _);
         good = good;
-        few = entry-few ready lw name p0 p1 e;
+        few = entry-few ready new e;
       })
 
   -- an accepted deletion leaves the records of the book after it
@@ -87,15 +87,15 @@ module _ {rows : List (List ℕ)} {root : ℕ} {b : Book} {g : List Label} {slic
           })
 
       accepted : (c : Call) → answer rows slice (length b) c .refusal ≡ none → Leaves c
-      accepted (entry lw name p0 p1) e = entry-leaves lw name p0 p1 e
+      accepted (entry new) e = entry-leaves new e
       accepted (deletion lw) e = deletion-leaves lw e
 
       go : (o : Option Refusal) → answer rows slice (length b) c .refusal ≡ o → Leaves c
       go none e = accepted c e
       go (some r) e = refused c r e
 
--- an accepted new store leaves the opened book's record
-opening : (rows : List (List ℕ)) (slice : List ℕ) (root p0 p1 : ℕ) → newStore slice root p0 p1 .refusal ≡ none →
+-- an accepted new store leaves the record of the opened book
+opening : (rows : Table) (slice : List ℕ) (root p0 p1 : ℕ) → newStore slice root p0 p1 .refusal ≡ none →
     LeftBy (cluesOf rows) root (newStore slice root p0 p1) (rootLine root p0 p1 ∷ []) ([] ∷ [])
 unfolding newStore newStoreRefusal rootCheck isName over bookWords storeWords joined elementWords labelWords inOrder insertLine lineElement last
 opening rows slice root p0 p1 e =
@@ -107,8 +107,8 @@ opening rows slice root p0 p1 e =
       few = omega arith;
     })
 
--- every run leaves that
-pub left : (rows : List (List ℕ)) (root : ℕ) {w : List ℕ} {n : ℕ} {b : Book} {g : List Label} →
+-- every run leaves as many records as lines, their words, and a good book
+pub left : (rows : Table) (root : ℕ) {w : List ℕ} {n : ℕ} {b : Book} {g : List Label} →
     tableCheck rows ≡ none → Run rows root w n b g → Left (cluesOf rows) root w n b g
 left rows root table (opened slice p0 p1 e) = opening rows slice root p0 p1 e
 left rows root table (called {b} {g} run slice c laid) =

@@ -46,19 +46,19 @@ is-closed cl root x h = go _ (eq? (length (cl (last (x .names)))) 0) _ (eq? (len
     go false (fails n) true (passes e) = subst (λ n. T (eqb n 0)) (sym (h .deepest e)) tt
     go false n false k = tt
 
--- word 0 is the depth
+-- word 0 of an element's record is the depth
 depth-word : (e : Element) → getD (elementWords e) 0 0 ≡ length (e .label)
 unfolding elementWords labelWords
 depth-word e = refl
 
--- a good line's record is laid out as it must be
+-- the record of a good line is laid out as a label
 laid-record : (cl : Clues) (root : ℕ) (x : Line) → GoodLine cl root x → T (laidOut (elementWords (lineElement x)))
 unfolding elementWords lineElement laidOut
 laid-record cl root x h =
     rw (take-at (labelWords (x .label)) (last (x .names) ∷ x .next ∷ x .payload0 ∷ x .payload1 ∷ []) labelSize (length-labelWords (x .label) (h .labelled .shallow)))
     (labelWords-good (x .label) (h .labelled))
 
--- the root's line has the root's name
+-- the line with the root's label has the root's name
 root-name : (cl : Clues) (root : ℕ) (x : Line) → GoodLine cl root x → x .label ≡ [] → last (x .names) ≡ root
 unfolding decode last
 root-name cl root x h e = ap last (path-names (sym (h .decodes) ∙ ap (decode cl root) e))
@@ -74,7 +74,7 @@ root-sound cl root x h r e =
     rw (read-element (lineElement x) (h .labelled .shallow))
     (test-passes _ _ _ (le→leb (last (x .names)) maxName (omega arith)) ∙ test-passes _ _ _ (is-closed cl root x h))
 
--- the record of another line is sound after records that hold its parent's
+-- the record of a line below the root is sound after records among which is its parent's
 below-sound : (cl : Clues) (root : ℕ) (p : Line) (done : Book) (x up : Line) → GoodLine cl root x → T (sooner p x) → 0 < length (x .label) →
     lineAt (above (x .label)) (p ∷ done) ≡ some up → led (cl (last (up .names))) (last (x .label)) ≡ some (last (x .names)) → last (x .label) < up .next →
     broken cl (map lineElement (p ∷ done)) (elementWords (lineElement x)) ≡ none
@@ -89,14 +89,14 @@ below-sound cl root p done x up h k n f g i =
     (rw g (test-passes _ _ _ (eqb-refl (last (x .names))) ∙ test-passes _ _ _ (lt→ltb (last (x .label)) (up .next) i) ∙ test-passes _ _ _
     (is-closed cl root x h))))
 
--- a book in two parts, the records done and those to come
+-- a book in two parts, the lines done and those to come
 record Parts (b done rest : Book) : Type 0 where
   split : (y : Line) → y ∈ b → y ∈ done ⊎ y ∈ rest
   doneIn : (y : Line) → y ∈ done → y ∈ b
   restIn : (y : Line) → y ∈ rest → y ∈ b
   order : (y z : Line) → y ∈ done → z ∈ rest → T (sooner y z)
 
--- one record more is done
+-- one line more is done
 one-done : {b done rest : Book} {x : Line} → Parts b done (x ∷ rest) → ((y : Line) → y ∈ rest → T (sooner x y)) → Parts b (x ∷ done) rest
 one-done {x = x} parts first = record {
   split = λ y m. ⊎-elim (λ k. inl (there k)) (λ k. ⊎-elim (λ e. inl (here e)) inr (here-or-there k)) (parts .split y m);
@@ -106,7 +106,7 @@ one-done {x = x} parts first = record {
 }
 
 module _ {cl : Clues} {root : ℕ} {b : Book} {g : List Label} (good : Good cl root b g) where
-  -- the parent of the first line to come is done
+  -- the parent's line of the first line to come is done
   parent-done : (done : Book) (x : Line) (rest : Book) → Parts b done (x ∷ rest) → ((y : Line) → y ∈ rest → T (sooner x y)) → 0 < length (x .label) →
       (y : Line) × y ∈ done × (y .label ≡ above (x .label))
   parent-done done x rest parts first n =
@@ -119,7 +119,7 @@ module _ {cl : Clues} {root : ℕ} {b : Book} {g : List Label} (good : Good cl r
           ⊎-elim (λ e. before-order .never (x .label) (subst (λ (z : Line). T (sooner z x)) e u))
           (λ t. before-one-way .asym (x .label) (y .label) (first y t) u) (here-or-there t)
 
-  -- the first line to come is sound
+  -- the record of the first line to come is sound after those done
   next-sound : (done : Book) (x : Line) (rest : Book) → Parts b done (x ∷ rest) → ((y : Line) → y ∈ rest → T (sooner x y)) →
       broken cl (map lineElement done) (elementWords (lineElement x)) ≡ none
   next-sound [] x rest parts first = go (x .label) refl
@@ -144,7 +144,7 @@ module _ {cl : Clues} {root : ℕ} {b : Book} {g : List Label} (good : Good cl r
       (ap (decode cl root) (sym j) ∙ good .lines up (parts .doneIn up i) .decodes) (ap (decode cl root) (sym c) ∙ good .lines x m .decodes))
       (good .below up (parts .doneIn up i) (last (x .label)) (Memᴰ·cast (ap (λ l. l ++ (last (x .label) ∷ [])) j ∙ sym c) (good .givenLines x m)))
 
-  -- and so are all to come
+  -- the records of all lines to come are sound after those done
   sound-from : (done rest : Book) → Parts b done rest → Ascending sooner rest → fault cl (map lineElement done) (map elementWords (map lineElement rest)) ≡ none
   unfolding fault elim? lineElement
   sound-from done [] parts none-left = refl

@@ -9,14 +9,14 @@ use borrow.Author.Tests.{eq-eqb, ne-eqb, lt-ltb, le-ltb, not-true, not-false}
 use lib.Dec.{leb}
 use Rattle.basics.proofs.Scans.{from-cons}
 use Rattle.wrapping.specs.Wrapping.{wrapped}
-use Rattle.case_lines.specs.Lines.{barOf, digit, behindDigits, placeOf, withDigit, withByte, rowOf}
+use Rattle.case_lines.specs.Lines.{barOf, digit, behindDigits, placeOf, withDigit, withByte, numbersOf}
 
 -- a byte below 48 is no digit
 pub below-digits : (b : ℕ) → b < 48 → false ≡ digit b
 unfolding digit
 below-digits b h = rw (lt-ltb _ _ h)
 
--- a byte from 48 on is one up to 57
+-- a byte from 48 on is a digit up to 57
 pub from-digits : (b : ℕ) → 48 ≤ b → leb b 57 ≡ digit b
 unfolding digit
 from-digits b h = rw (le-ltb _ _ h)
@@ -37,16 +37,17 @@ module _ (l : List ℕ) (i : ℕ) (inv : barOf l ≡ i + barOf (drop i l)) where
   unfolding barOf
   bar-on h e = rw (inv, from-cons l i 0, ne-eqb _ _ e) (omega arith)
 
-  -- there is none
+  -- a line without a bar has it at its end
   pub bar-none : length l ≤ i → i ≡ barOf l
   unfolding barOf
   bar-none h = rw (inv, drop-of-length-le l h) (omega arith)
 
--- the place of a digit's number, inside a number and otherwise
+-- inside a number the place of a digit's number is the last one's
 pub place-inside : {inside : Bool} (row : List ℕ) {last : ℕ} → inside ≡ true → last ≡ getD row 0 0 → last ≡ placeOf inside row
 unfolding placeOf
 place-inside row e is = rw e is
 
+-- outside of a number the place of a digit's number is the next one's
 pub place-next : {inside : Bool} (row : List ℕ) {last next : ℕ} → inside ≡ false → last ≡ getD row 0 0 → next ≡ wrapped last 1 → next ≡ placeOf inside row
 unfolding placeOf
 place-next row e is k = rw (e, ← is) k
@@ -72,14 +73,14 @@ module _ (inside : Bool) (b : ℕ) (row : List ℕ) where
   row-longer e n t row₁ is-n is-row is-t is-s is-end = rw (← e, ← is-n, ← is-row, ← is-t, ← is-s) is-end
 
 -- a line read up to place i: the row that the rest gives is that of the whole
-module _ (l row₀ row : List ℕ) (from i : ℕ) (inside : Bool) (inv : rowOf false (drop from l) row₀ ≡ rowOf inside (drop i l) row) where
-  -- one byte more
+module _ (l row₀ row : List ℕ) (from i : ℕ) (inside : Bool) (inv : numbersOf false (drop from l) row₀ ≡ numbersOf inside (drop i l) row) where
+  -- with one byte more read, the rest behind it gives the row of the whole
   pub row-on : i < length l → {d : Bool} {row₁ : List ℕ} → d ≡ digit (getD l i 0) → row₁ ≡ withByte inside (getD l i 0) row
-      → rowOf false (drop from l) row₀ ≡ rowOf d (drop (i + 1) l) row₁
-  unfolding rowOf
+      → numbersOf false (drop from l) row₀ ≡ numbersOf d (drop (i + 1) l) row₁
+  unfolding numbersOf
   row-on h is next = rw (inv, from-cons l i 0, is, next)
 
-  -- nothing is left
-  pub row-end : length l ≤ i → row ≡ rowOf false (drop from l) row₀
-  unfolding rowOf
+  -- with no byte left, the row is that of the line
+  pub row-end : length l ≤ i → row ≡ numbersOf false (drop from l) row₀
+  unfolding numbersOf
   row-end h = rw (inv, drop-of-length-le l h)

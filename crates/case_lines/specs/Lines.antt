@@ -27,11 +27,11 @@ placeOf inside row = cond inside (getD row 0 0) (wrapped (getD row 0 0) 1)
 unfoldable pub withDigit : ℕ → ℕ → List ℕ → List ℕ
 withDigit n b row = behindDigits n b (set row 0 n)
 
--- a byte read into a row: one that is no digit leaves it
+-- a byte read into a row: a digit goes to its number, and any other byte leaves the row
 unfoldable pub withByte : Bool → ℕ → List ℕ → List ℕ
 withByte inside b row = cond (digit b) (withDigit (placeOf inside row) b row) row
 
 -- bytes read into a row, from inside a number or not
-unfoldable pub rowOf : Bool → List ℕ → List ℕ → List ℕ
-rowOf inside [] row = row
-rowOf inside (b ∷ more) row = rowOf (digit b) more (withByte inside b row)
+unfoldable pub numbersOf : Bool → List ℕ → List ℕ → List ℕ
+numbersOf inside [] row = row
+numbersOf inside (b ∷ more) row = numbersOf (digit b) more (withByte inside b row)

@@ -5,7 +5,7 @@ use wrapping::sum;
 ghost use mathlib.Core.Path.{_≡_};
 ghost use mathlib.Core.Bool.{false};
 ghost use lib.ListN.{drop};
-ghost use Rattle.case_lines.specs.Lines.{barOf, digit, placeOf, withByte, rowOf};
+ghost use Rattle.case_lines.specs.Lines.{barOf, digit, placeOf, withByte, numbersOf};
 
 // The places of a row: how many numbers a line has, and the numbers.
 pub const ROW: usize = 40;
@@ -53,7 +53,8 @@ fn place_of(inside: bool, row: &[usize]) -> usize
     sum(number(row, 0), 1)
 }
 
-// A byte read into a row, from inside a number or not: whether it is a digit. A row tells how many numbers it has, and has them behind that.
+// A byte read into a row, from inside a number or not: whether it is a digit. A row tells how many numbers it has, and
+// has them behind that.
 fn read_byte(b: u8, inside: bool, row: &mut [usize]) -> bool
     ensures { λ r. ⌜ (r ≡ digit b) × (now (row .exit) ≡ withByte inside b (now (row .entry))) ⌝ }
 {
@@ -69,7 +70,7 @@ fn read_byte(b: u8, inside: bool, row: &mut [usize]) -> bool
 
 // The numbers of a line from a place on, read into a row.
 pub fn read_row(line: &[u8], from: usize, row: &mut [usize])
-    ensures { λ u. ⌜ now (row .exit) ≡ rowOf false (drop from (now (line .entry))) (now (row .entry)) ⌝ }
+    ensures { λ u. ⌜ now (row .exit) ≡ numbersOf false (drop from (now (line .entry))) (now (row .entry)) ⌝ }
 {
     let mut inside = false;
     let mut i = from;

@@ -7,7 +7,8 @@ use mathlib.Core.Option.{some, none}
 use native.Mathlib.Omega.{arith}
 use lib.ListN.{length, getD, take, drop}
 use lib.Seq.{take-add, drop-at, length-take-le}
-use Rattle.basics.specs.Basics.{elim?}
+use Rattle.basics.proofs.Leading.{leading-most}
+use Rattle.basics.specs.Basics.{elim?, leading}
 use Rattle.basics.specs.Limits.{maxDepth, recordSize}
 use Rattle.naming.specs.Names.{Clues}
 use Rattle.labelling.specs.Labels.{Label}
@@ -17,8 +18,8 @@ use Rattle.storage.proofs.Faults.{sound-check}
 use Rattle.storage.proofs.Relaid.{relaid}
 use Rattle.records.specs.Records.{recordAt}
 use Rattle.records.proofs.Elements.{element-at}
-use Rattle.lookup.specs.Places.{placeAt, passes, leading, Searchable}
-use Rattle.lookup.proofs.Places.{leading-most, place-inside, find-place}
+use Rattle.lookup.specs.Places.{placeAt, passes, InLabelOrder}
+use Rattle.lookup.proofs.Places.{place-inside, find-place}
 pub use Rattle.storage.proofs.SoundStore.{sound-fit}
 
 -- the records in use behind place b
@@ -33,7 +34,7 @@ records-behind ws b count h room =
 pub subtree-end : (count : ℕ) (ws : List ℕ) (l : Label) → leading (passes true l) (elements count ws) ≤ count
 subtree-end count ws l = omega (arith, leading-most (passes true l) (elements count ws), length-elements-read count ws)
 
--- and so does what is said to be its end
+-- the number that is answered as the end of a subtree is not past the records in use
 pub end-used : (count : ℕ) (ws : List ℕ) (l : Label) {end : ℕ} → end ≡ leading (passes true l) (elements count ws) → end ≤ count
 end-used count ws l e = rw e (subtree-end count ws l)
 
@@ -48,7 +49,7 @@ unfolding elim?
 find-absent count ws l e = rw (find-place l (elements count ws) (elementAt l (elements count ws)), e)
 
 module _ (count : ℕ) (ws : List ℕ) (l : Label) (a : ℕ) (at : placeAt l (elements count ws) ≡ some a) where
-  -- the place is one of those in use
+  -- the place of a label is one of those in use
   pub place-used : a < count
   place-used = omega (arith, length-elements-read count ws, place-inside l (elements count ws) a (elementAt l (elements count ws)) at .0)
 
@@ -57,33 +58,33 @@ module _ (count : ℕ) (ws : List ℕ) (l : Label) (a : ℕ) (at : placeAt l (el
   unfolding elementAt elim?
   element-found d = rw (find-place l (elements count ws) d, at)
 
-  -- it is found as what the record there reads as
+  -- the element with a label is found as what the record at its place reads as
   pub find-found : find l (elements count ws) ≡ some (readElement (recordAt a ws))
   unfolding elim?
   find-found =
       let d = elementAt l (elements count ws) in
       find-place l (elements count ws) d ∙ rw at (ap some (element-at count ws a d place-used))
 
-  -- so it is that
+  -- the element with a label is what the record at its place reads as
   pub parent-read : elementAt l (elements count ws) ≡ readElement (recordAt a ws)
   unfolding elementAt elim?
   parent-read = rw find-found
 
-  -- and has the label
+  -- the element that a label's place has has that label
   pub parent-label : elementAt l (elements count ws) .label ≡ l
   parent-label =
       let d = elementAt l (elements count ws) in
       ap (λ (e : Element). e .label) (element-found d) ∙ place-inside l (elements count ws) a d at .1
 
-  -- so it is as deep as the record says
+  -- a label is as deep as the record at its place says
   pub label-high : length (readElement (recordAt a ws) .label) < maxDepth → length l < maxDepth
   label-high h = subst (λ m. length m < maxDepth) (ap (λ (e : Element). e .label) (sym parent-read) ∙ parent-label) h
 
-  module _ (can : Searchable count ws) where
-    -- its record is in the slice
+  module _ (can : InLabelOrder count ws) where
+    -- the record at a label's place is in the slice
     pub record-inside : a * recordSize + recordSize ≤ length ws
     record-inside = omega (arith, can .room, place-used)
 
-    -- and has a depth of at most 15
+    -- the record at a label's place has a depth of at most 15
     pub record-shallow : getD ws (a * recordSize) 0 ≤ maxDepth
     record-shallow = can .shallow a place-used

@@ -24,7 +24,7 @@ module _ (es : List Element) (fit : Fit es) where
         length-storeWords (take b es) (λ e m. fit e (subst (λ l. e ∈ l) (take-append-drop b es) (Memᴰ·append-left (drop b es) m))) ∙
         ap (λ n. recordSize * n) (length-take-le b es inside)
 
-    -- the words are those of the first b elements and those of the others
+    -- the words of the elements are those of the first b and those of the others
     two-parts : storeWords es ≡ storeWords (take b es) ++ storeWords (drop b es)
     two-parts = ap storeWords (sym (take-append-drop b es)) ∙ words-append (take b es) (drop b es)
 
@@ -32,17 +32,17 @@ module _ (es : List Element) (fit : Fit es) where
     words-take : storeWords (take b es) ≡ take (recordSize * b) (storeWords es)
     words-take = sym (ap (take (recordSize * b)) two-parts ∙ take-at (storeWords (take b es)) (storeWords (drop b es)) (recordSize * b) front-size)
 
-    -- the others are the other records
+    -- the elements behind the first b are the records behind the first b
     words-drop : storeWords (drop b es) ≡ drop (recordSize * b) (storeWords es)
     words-drop = sym (ap (drop (recordSize * b)) two-parts ∙ drop-at (storeWords (take b es)) (storeWords (drop b es)) (recordSize * b) front-size)
 
-    -- an element put in at a place
+    -- where an element is put in at a place, its record is put in there
     pub words-splice : (new : Element) → storeWords (take b es ++ (new ∷ drop b es)) ≡
         take (recordSize * b) (storeWords es) ++ (elementWords new ++ drop (recordSize * b) (storeWords es))
     unfolding storeWords joined
     words-splice new = words-append (take b es) (new ∷ drop b es) ∙ ap₂ (λ s t. s ++ (elementWords new ++ t)) words-take words-drop
 
-  -- the elements from a place to another taken out
+  -- where the elements from a place to another are taken out, their records are taken out
   pub words-gap : (a b : ℕ) → a ≤ b → b ≤ length es →
       storeWords (take a es ++ drop b es) ≡ take (recordSize * a) (storeWords es) ++ drop (recordSize * b) (storeWords es)
   words-gap a b h k = words-append (take a es) (drop b es) ∙ ap₂ _++_ (words-take a (omega arith)) (words-drop b k)

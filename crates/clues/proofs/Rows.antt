@@ -9,61 +9,61 @@ use lib.ListN.{length, getD, drop, replicate, List·getD-eq-default}
 use lib.Seq.{getD-take}
 use borrow.Author.Tests.{eq-eqb, ne-eqb}
 use Rattle.basics.specs.Limits.{filler, tableSize}
-use Rattle.naming.specs.Names.{namesOf, cluesOf, placeIn, led}
+use Rattle.naming.specs.Names.{Table, namesOf, cluesOf, placeIn, led}
 use Rattle.names.proofs.Rows.{names-end, names-stop, names-on, take-names, names-short}
-use Rattle.clues.specs.Answers.{placeOf, childOf}
+use Rattle.clues.specs.Answers.{placeAnswer, childOf}
 use Rattle.clues.specs.declared.Place.{Place}
 use Rattle.clues.specs.declared.Place.the-variants as place
 use Rattle.clues.specs.declared.Child.{Child}
 use Rattle.clues.specs.declared.Child.the-variants as child
 
--- a place, counted from i earlier
+-- a place in the rest of a row from i on, counted from the row's start
 abbrev pub shifted : ℕ → Option ℕ → Option ℕ
 shifted i none = none
 shifted i (some k) = some (i + k)
 
--- counted from nought earlier it is the same
+-- a place in a row from 0 on is a place in the row
 pub shift-from : (o : Option ℕ) → o ≡ shifted 0 o
 shift-from none = refl
 shift-from (some k) = ap some (sym (zero-add k))
 
--- a place one further on
+-- a place in the rest of a row from i on, one further on, is a place from i + 1 on
 shift-more : (i : ℕ) (o : Option ℕ) → shifted i (Option·map suc o) ≡ shifted (i + 1) o
 shift-more i none = refl
 shift-more i (some k) = ap some (omega arith)
 
--- a search for c, from i on
+-- a search of a row for the name c, which has come to place i
 module _ (c : ℕ) (row : List ℕ) (i : ℕ) where
-  -- the search has come to i
+  -- the search has not found c before place i
   abbrev pub Searched : Type 0
   Searched = placeIn c (namesOf row) ≡ shifted i (placeIn c (namesOf (drop i row)))
 
   module _ (inv : Searched) where
-    -- the search at the row's end
-    pub search-end : length row ≤ i → place.Absent ≡ placeOf (placeIn c (namesOf row))
+    -- a search that has come to the row's end has not found the name
+    pub search-end : length row ≤ i → place.Absent ≡ placeAnswer (placeIn c (namesOf row))
     unfolding placeIn
     search-end h = rw (inv, names-end row i h)
 
     module _ (h : i < length row) where
-      -- the search at the filling
-      pub search-stop : getD row i 0 ≡ filler → place.Absent ≡ placeOf (placeIn c (namesOf row))
+      -- a search that has come to the filler has not found the name
+      pub search-stop : getD row i 0 ≡ filler → place.Absent ≡ placeAnswer (placeIn c (namesOf row))
       unfolding placeIn
       search-stop e = rw (inv, names-stop row i h e)
 
       module _ (go : getD row i 0 ≡ filler → ⊥) where
-        -- the search finds the name
-        pub search-here : getD row i 0 ≡ c → place.At i ≡ placeOf (placeIn c (namesOf row))
+        -- a search that finds the name at place i answers i
+        pub search-here : getD row i 0 ≡ c → place.At i ≡ placeAnswer (placeIn c (namesOf row))
         unfolding placeIn
         search-here e = rw (inv, names-on row i h go, eq-eqb _ _ e) (ap place.At (omega arith))
 
-        -- the search goes on
+        -- where another number stands at place i, the search goes on
         pub search-on : (getD row i 0 ≡ c → ⊥) → placeIn c (namesOf row) ≡ shifted (i + 1) (placeIn c (namesOf (drop (i + 1) row)))
         unfolding placeIn
         search-on e = rw (inv, names-on row i h go, ne-eqb _ _ e) (shift-more i (placeIn c (namesOf (drop (i + 1) row))))
 
 -- the clue of a number, by its row
-module _ (table : List (List ℕ)) (p : ℕ) {rows : List (List ℕ)} (same : rows ≡ table) where
-  -- a number past the last row has the clue of a row of filling alone
+module _ (table : Table) (p : ℕ) {rows : Table} (same : rows ≡ table) where
+  -- a number past the last row has the clue of a row of filler alone
   pub clue-none : length rows ≤ p → namesOf (replicate tableSize filler) ≡ cluesOf table p
   unfolding cluesOf namesOf
   clue-none h = rw (← same, List·getD-eq-default)
@@ -89,9 +89,9 @@ unfolding led
 led-some [] x e = absurd (e refl)
 led-some (y ∷ l) x e = refl
 
--- a component picks from the row: n is how many names it has
+-- a component picks a name from a row of n names
 module _ (row : List ℕ) (x : ℕ) {n : ℕ} (is : n ≡ length (namesOf row)) where
-  -- from a row of no names it leads nowhere
+  -- in a row of no names a component leads nowhere
   pub pick-none : n ≡ 0 → child.Nowhere ≡ childOf (led (namesOf row) x)
   pick-none e = rw (led-none (namesOf row) x (sym is ∙ e))
 
@@ -100,28 +100,28 @@ module _ (row : List ℕ) (x : ℕ) {n : ℕ} (is : n ≡ length (namesOf row)) 
     pick-below : x % n < length (namesOf row)
     pick-below = let h = mod-lt x (pos-of-ne-zero some-left) in omega (arith, h, is)
 
-    -- and so a place of the row
+    -- the remainder is a place of the row
     pub pick-in : x % n < length row
     pick-in = omega (arith, pick-below, names-short row)
 
-    -- the name there is the one that it leads to
+    -- the component leads to the name at its remainder
     pub pick-some : child.Name (getD row (x % n) 0) ≡ childOf (led (namesOf row) x)
     pick-some = rw (led-some (namesOf row) x (λ e. some-left (is ∙ e)), ← is, names-at row (x % n) pick-below)
 
--- what is read of a row's copy is read of its clue: the copy is lent whole
+-- what is read of a copy of a name's row is read of the name's clue
 module _ {clue copy row : List ℕ} (is : namesOf copy ≡ clue) (same : row ≡ copy) where
-  -- the row has as many names
+  -- the row has as many names as the clue
   pub clue-size : {n : ℕ} → n ≡ length clue → n ≡ length (namesOf row)
   clue-size e = rw (same, is) e
 
-  -- how many names
+  -- the clue has as many names as the row
   pub clue-count : {n : ℕ} → n ≡ length (namesOf row) → n ≡ length clue
   clue-count e = rw (← is, ← same) e
 
-  -- where a name stands
-  pub clue-place : (c : ℕ) {r : Place} → r ≡ placeOf (placeIn c (namesOf row)) → r ≡ placeOf (placeIn c clue)
+  -- a name has the place in the clue that it has in the row
+  pub clue-place : (c : ℕ) {r : Place} → r ≡ placeAnswer (placeIn c (namesOf row)) → r ≡ placeAnswer (placeIn c clue)
   clue-place c e = rw (← is, ← same) e
 
-  -- which name a component picks
+  -- a component picks the same name from the clue and from the row
   pub clue-child : (x : ℕ) {r : Child} → r ≡ childOf (led (namesOf row) x) → r ≡ childOf (led clue x)
   clue-child x e = rw (← is, ← same) e

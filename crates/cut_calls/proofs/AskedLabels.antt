@@ -18,7 +18,7 @@ use Rattle.basics.proofs.Tests.{Tells, passes, fails, tells}
 use Rattle.basics.proofs.Lists.{nowhere, keep-iff}
 use Rattle.basics.proofs.Ranges.{length-upTo, map-upTo}
 
--- the stream of record i, also past the twig's end
+-- the stream of node i: a leaf's is cut by its name, and an inner node or a number past the twig's end has none
 streams-at : (t : Twig) (es : List Element) (i : ℕ) → getD (streams t es) i [] ≡ cond (ltb i (length t) && isLeaf t i) (stream (nodeAt t i .name) es) []
 unfolding streams wanted elim?
 streams-at t es i = go (ltb i (length t)) (tells (ltb i (length t)) (ltb→lt i (length t), lt→ltb i (length t)))
@@ -38,11 +38,11 @@ streams-at t es i = go (ltb i (length t)) (tells (ltb i (length t)) (ltb→lt i 
     go false (fails n) = List·getD-map cut (map want (upTo (length t))) i none ∙
         ap cut (List·getD-eq-default (map want (upTo (length t))) none (omega (arith, length-map (upTo (length t)) want, length-upTo (length t))))
 
--- an element that a name asks for has the label
+-- the label is that of an element that a name asks for
 abbrev pub Asked : ℕ → List Element → Label → Type 0
 Asked want es l = (e : Element) × e ∈ es × T (asks want (e .name)) × (e .label ≡ l)
 
--- the stream that a name asks for has the labels of the elements it asks for
+-- the stream of a name has the labels of the elements that the name asks for
 stream-asked : (want : ℕ) (es : List Element) (l : Label) → l ∈ stream want es ↔ Asked want es l
 unfolding stream
 stream-asked want es l = (
@@ -55,7 +55,7 @@ stream-asked want es l = (
       Memᴰ·cast (sym f) (Memᴰ·map (λ (e : Element). e .label) (keep-iff (λ (e : Element). asks want (e .name)) es e .1 (m, a))),
 )
 
--- the stream of a leaf has the labels of the elements that its name asks for, that of an inner record none
+-- the stream of a leaf has the labels of the elements that its name asks for, that of an inner node none
 pub streams-asked : (t : Twig) (es : List Element) (i : ℕ) (l : Label) →
     l ∈ getD (streams t es) i [] ↔ (T (ltb i (length t) && isLeaf t i) × Asked (nodeAt t i .name) es l)
 streams-asked t es i l = rw streams-at (go (ltb i (length t) && isLeaf t i))

@@ -4,7 +4,7 @@ use Rattle.cut_calls.specs.RefusalChecks.{cutRefusals}
 use Rattle.embeddings.proofs.Computing.{computing as patterns}
 use Rattle.storage.proofs.Computing.{computing as records}
 
--- `unfolding computing` opens them all
+-- `unfolding computing` opens every definition named here
 unfoldable pub computing : Unit {0}
 unfolding patterns records stream streams fullList cutRefusal cut cutRefusals
 computing = tt

@@ -6,9 +6,9 @@ use Prim.Native.Nat.{ℕ, _≤_}
 use lib.ListN.{length, take}
 use lib.Dec.{leb, le→leb}
 use Rattle.basics.specs.Basics.{over, joined}
-use Rattle.basics.specs.Limits.{maxDepth, maxElements, maxName}
+use Rattle.basics.specs.Limits.{maxDepth, maxRecords, maxName}
 use Rattle.basics.specs.Refusals.{first, shortOutput, badRoot}
-use Rattle.naming.specs.Names.{tableCheck, cluesOf, rootCheck, isName}
+use Rattle.naming.specs.Names.{Table, tableCheck, cluesOf, rootCheck, isName}
 use Rattle.patterns.specs.Twigs.{nameCheck, twigCheck, leafNames, wanted, readTwig}
 use Rattle.embeddings.specs.Matches.{labelsWords, matchWords, matches}
 use Rattle.storage.specs.Store.{Element, soundCheck, elements, sizeCheck}
@@ -23,19 +23,19 @@ use Rattle.storage.proofs.SoundStore.{SoundElements}
 use Rattle.cut_calls.proofs.StreamWords.{for-stream, dealt-wanted, streams-laid}
 
 -- a store under an accepted table whose records are sound and read as the elements es
-pub record Stored (rows : List (List ℕ)) (ws : List ℕ) (count root : ℕ) (es : List Element) : Type 0 where
+pub record Stored (rows : Table) (ws : List ℕ) (count root : ℕ) (es : List Element) : Type 0 where
   pub table : tableCheck rows ≡ none
   pub sound : soundCheck (cluesOf rows) count ws ≡ none
   pub read : elements count ws ≡ es
   pub good : SoundElements (cluesOf rows) root es
-  pub few : length es ≤ maxElements
+  pub few : length es ≤ maxRecords
 
-module _ {rows : List (List ℕ)} {ws : List ℕ} {count root : ℕ} {es : List Element} (store : Stored rows ws count root es) where
-  -- a label of the elements fits its words
+module _ {rows : Table} {ws : List ℕ} {count root : ℕ} {es : List Element} (store : Stored rows ws count root es) where
+  -- the labels of the elements fit their records
   short : Fit es
   short e m = store .good .labelled e m .shallow
 
-  -- an accepted cut gives the stream
+  -- an accepted cut answers the stream of its name
   cut-taken : (want : ℕ) (out : List ℕ) → cut rows ws count want out .refusal ≡ none →
       cut rows ws count want out ≡ record { refusal = none; count = length (stream want es); output = over (labelsWords (stream want es)) out }
   unfolding cut
@@ -43,7 +43,7 @@ module _ {rows : List (List ℕ)} {ws : List ℕ} {count root : ℕ} {es : List 
       listed-whole (cutRefusal rows ws count want out) _ _ out (sym (listed-refusal _ _ _ _) ∙ e) ∙
       ap {B = Listing} (λ es. record { refusal = none; count = length (stream want es); output = over (labelsWords (stream want es)) out }) (store .read)
 
-  -- with room enough a cut is accepted
+  -- cutting with room enough is accepted
   pub cut-listed : (want : ℕ) (out : List ℕ) → sizeCheck (length ws) count ≡ none → nameCheck want 0 ≡ none →
       length (labelsWords (stream want es)) ≤ length out →
       cut rows ws count want out ≡ record { refusal = none; count = length (stream want es); output = over (labelsWords (stream want es)) out }
@@ -69,7 +69,7 @@ module _ {rows : List (List ℕ)} {ws : List ℕ} {count root : ℕ} {es : List 
       let (out, e, ok) = c .0 in
       ap₂ _∷_ (ap (λ (a : Listing). a .count) (e ∙ cut-taken want out (ap (λ (a : Listing). a .refusal) (sym e) ∙ ok))) (cuts-counted wants cuts (c .1))
 
-  -- and its words are theirs
+  -- the words that cutting wrote are those of the streams
   cuts-worded : (wants : List ℕ) (cuts : List Listing) → Cuts rows ws count wants cuts → map cutWords cuts ≡ map (λ want. labelsWords (stream want es)) wants
   cuts-worded [] [] c = refl
   cuts-worded [] (a ∷ cuts) c = absurd c

@@ -1,4 +1,4 @@
--- Streams of sound elements are good, and laid out in one buffer they are accepted and dealt out again.
+-- Streams of sound elements are good; laid out in one buffer they are accepted and dealt out again.
 use mathlib.Core.Path.{_≡_, refl, ap, ap₂, _∙_}
 use mathlib.Core.Logic.{inl}
 use mathlib.Core.List.{List, [], _∷_, _++_, map, append-assoc}
@@ -9,7 +9,7 @@ use lib.ListN.{length, getD, take, drop, length-map, length-append, List·getD-m
 use lib.Seq.{take-at, drop-at}
 use lib.Dec.{T, leb, le→leb}
 use Rattle.basics.specs.Basics.{_∈_, elim?, all, keep, joined, total, Ascending, none-left, one-more}
-use Rattle.basics.specs.Limits.{maxDepth, maxElements, labelSize, anyName}
+use Rattle.basics.specs.Limits.{maxDepth, maxRecords, labelSize, anyName}
 use Rattle.naming.specs.Names.{Clues}
 use Rattle.labelling.specs.Labels.{Label, before, labelWords, labelOf}
 use Rattle.patterns.specs.Twigs.{Twig, wanted, leafNames}
@@ -49,25 +49,25 @@ module _ (cl : Clues) (root : ℕ) (es : List Element) (sound : SoundElements cl
     named = for-stream (λ l. T (fits cl root want l)) want es (λ e m a. rw (sound .named e m) a);
   }
 
-  -- and so is the stream of each record
-  record-good : (r : Option ℕ) → GoodStream cl root r (elim? r [] (λ want. stream want es))
+  -- the stream that is cut for a node is good
+  node-good : (r : Option ℕ) → GoodStream cl root r (elim? r [] (λ want. stream want es))
   unfolding elim?
-  record-good none = nothing-good cl root none
-  record-good (some want) = stream-good want
+  node-good none = nothing-good cl root none
+  node-good (some want) = stream-good want
 
--- streams of sound elements are what matching takes
+-- matching takes the streams of sound elements
 pub streams-sound : (cl : Clues) (root : ℕ) (t : Twig) (es : List Element) → SoundElements cl root es → GoodStreams cl root t (streams t es)
 unfolding streams elim?
 streams-sound cl root t es sound = each-good cl root t (streams t es) (length-map (wanted t) _ ∙ length-wanted t) (λ i.
-    rw (List·getD-map (λ r. elim? r [] (λ want. stream want es)) (wanted t) i none) (record-good cl root es sound (getD (wanted t) i none)))
+    rw (List·getD-map (λ r. elim? r [] (λ want. stream want es)) (wanted t) i none) (node-good cl root es sound (getD (wanted t) i none)))
 
 module _ (l : Label) (ls : List Label) (rest : List ℕ) (short : length l ≤ maxDepth) where
-  -- the first words of labels hold the first label
+  -- the first sixteen words of labels are those of the first label
   take-labelsWords : take labelSize (labelsWords (l ∷ ls) ++ rest) ≡ labelWords l
   unfolding labelsWords joined
   take-labelsWords = rw append-assoc (take-at (labelWords l) (labelsWords ls ++ rest) labelSize (length-labelWords l short))
 
-  -- and behind them stand the words of the others
+  -- behind the words of the first label stand those of the others
   drop-labelsWords : drop labelSize (labelsWords (l ∷ ls) ++ rest) ≡ labelsWords ls ++ rest
   unfolding labelsWords joined
   drop-labelsWords = rw append-assoc (drop-at (labelWords l) (labelsWords ls ++ rest) labelSize (length-labelWords l short))
@@ -83,7 +83,7 @@ labelsIn-labelsWords (l ∷ ls) rest h =
     (ap (labelsIn (length ls)) (drop-labelsWords l ls rest short) ∙ labelsIn-labelsWords ls rest (λ m k. h m (there k)))
 
 module _ (cl : Clues) (root want : ℕ) where
-  -- good labels in order, each fitting a name and later than the label before them, are accepted
+  -- good labels in order, each fitting a name and later than the label before them, are accepted as a stream
   labels-accepted : {ls : List Label} → Ascending before ls → ((l : Label) → l ∈ ls → GoodLabel l) →
       ((l : Label) → l ∈ ls → T (fits cl root want l)) → (i : ℕ) (previous : Option Label) (rest : List ℕ) → ((l : Label) → l ∈ ls → Later previous l) →
       streamCheck cl root want i previous (length ls) (labelsWords ls ++ rest) ≡ none
@@ -103,13 +103,13 @@ module _ (cl : Clues) (root want : ℕ) where
       ((l : Label) → l ∈ ls → Later previous l) → streamCheck cl root want i previous (length ls) (labelsWords ls ++ rest) ≡ none
   streamCheck-labelsWords ls good = labels-accepted (good .ordered) (good .labelled) (unfold elim? in good .named)
 
--- the streams of some names, one after the other in one buffer
+-- the streams s of some names, one after the other in one buffer
 module _ (s : ℕ → List Label) where
   -- how many labels each stream has
   abbrev pub counted : List ℕ → List ℕ
   counted = map (λ want. length (s want))
 
-  -- the words of all of them
+  -- the words of all streams, one stream after the other
   abbrev pub laid : List ℕ → List ℕ
   laid names = joined (map (λ want. labelsWords (s want)) names)
 
@@ -119,14 +119,14 @@ module _ (s : ℕ → List Label) where
     unfolding joined
     drop-laid want names = drop-at (labelsWords (s want)) (laid names) (labelSize * length (s want)) (length-labelsWords (s want) (short want))
 
-    -- the buffer has sixteen words for each label
+    -- the buffer of the streams has sixteen words for each label
     length-laid : (names : List ℕ) → length (laid names) ≡ labelSize * total (counted names)
     unfolding joined total
     length-laid [] = refl
     length-laid (want ∷ names) =
         omega (arith, length-append (labelsWords (s want)) (laid names), length-labelsWords (s want) (short want), length-laid names)
 
-    -- the buffer is dealt out to the streams laid out in it
+    -- the buffer of the streams is dealt out into the streams laid out in it
     dealt-laid : (rs : List (Option ℕ)) → dealt rs (counted (leafNames rs)) (laid (leafNames rs)) ≡ map (λ r. elim? r [] s) rs
     unfolding dealt leafNames elim? joined
     dealt-laid [] = refl
@@ -134,7 +134,7 @@ module _ (s : ℕ → List Label) where
     dealt-laid (some want ∷ rs) = ap₂ _∷_ (labelsIn-labelsWords (s want) (laid (leafNames rs)) (short want))
         (rw (drop-laid want (leafNames rs)) (dealt-laid rs))
 
-    -- and accepted
+    -- the buffer of good streams is accepted
     labelsCheck-laid : (cl : Clues) (root : ℕ) → ((want : ℕ) → GoodStream cl root (some want) (s want)) → (rs : List (Option ℕ)) (i : ℕ) →
         labelsCheck cl root i rs (counted (leafNames rs)) (laid (leafNames rs)) ≡ none
     unfolding labelsCheck leafNames joined elim?
@@ -152,13 +152,13 @@ unfolding stream
 length-stream want es =
     omega (arith, length-map (keep (λ e. asks want (e .name)) es) (λ e. e .label), length-keep (λ e. asks want (e .name)) es)
 
--- no count is too high where no stream is too long
-counted-few : (s : ℕ → List Label) → ((want : ℕ) → length (s want) ≤ maxElements) → (names : List ℕ) →
-    T (all (λ c. leb c maxElements) (counted s names))
+-- no count is over 4,096 where no stream has more labels
+counted-few : (s : ℕ → List Label) → ((want : ℕ) → length (s want) ≤ maxRecords) → (names : List ℕ) →
+    T (all (λ c. leb c maxRecords) (counted s names))
 unfolding all
 counted-few s few [] = tt
 counted-few s few (want ∷ names) =
-    and-iff (leb (length (s want)) maxElements) _ .1 (le→leb (length (s want)) maxElements (few want), counted-few s few names)
+    and-iff (leb (length (s want)) maxRecords) _ .1 (le→leb (length (s want)) maxRecords (few want), counted-few s few names)
 
 -- the streams of elements, laid out in one buffer, are dealt out again
 pub dealt-streams : (rs : List (Option ℕ)) (es : List Element) → Fit es →
@@ -166,14 +166,14 @@ pub dealt-streams : (rs : List (Option ℕ)) (es : List Element) → Fit es →
     map (λ r. elim? r [] (λ want. stream want es)) rs
 dealt-streams rs es fit = dealt-laid (λ want. stream want es) (λ want. for-stream (λ l. length l ≤ maxDepth) want es (λ e m a. fit e m)) rs
 
--- each to its record of a twig
+-- the streams of elements, laid out in one buffer, are dealt out to the nodes of a twig
 pub dealt-wanted : (t : Twig) (es : List Element) → Fit es →
     dealt (wanted t) (counted (λ want. stream want es) (leafNames (wanted t))) (laid (λ want. stream want es) (leafNames (wanted t))) ≡ streams t es
 unfolding streams
 dealt-wanted t = dealt-streams (wanted t)
 
 -- the streams of at most 4,096 sound elements, laid out in one buffer, are accepted
-pub streams-laid : (cl : Clues) (root : ℕ) (t : Twig) (es : List Element) → SoundElements cl root es → length es ≤ maxElements →
+pub streams-laid : (cl : Clues) (root : ℕ) (t : Twig) (es : List Element) → SoundElements cl root es → length es ≤ maxRecords →
     streamsCheck cl root t (counted (λ want. stream want es) (leafNames (wanted t))) (laid (λ want. stream want es) (leafNames (wanted t))) ≡ none
 unfolding streamsCheck
 streams-laid cl root t es sound few =

@@ -1,4 +1,4 @@
--- Streams cut from a store.
+-- The call that cuts a stream from a store.
 pub mod Cutting
--- Examples.
+-- Examples that the checker works through.
 pub mod RefusalChecks

@@ -7,7 +7,7 @@ use Rattle.naming.specs.Examples.{tornTable, loopTable}
 use Rattle.storage.specs.Examples.{deepStore, torn}
 use Rattle.cut_calls.specs.Cutting.{cut}
 
--- cutting 22, 18, 19, 7, 17
+-- the refusals of cutting, by 22, 18, 19, 7 and 17
 unfoldable pub cutRefusals : List Check
 cutRefusals =
     is (shown (cut tornTable [] 0 64 [] .refusal)) (22 ∷ 0 ∷ [])

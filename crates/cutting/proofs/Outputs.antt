@@ -22,19 +22,19 @@ pub written-from : (ls : List Label) (out : List ℕ) → over (labelsWords ls) 
 unfolding written
 written-from ls out = refl
 
--- at the end none are
+-- at the end no label is to come
 pub written-end : (n : ℕ) (out : List ℕ) → written [] n out ≡ out
 unfolding written over labelsWords joined
 written-end n out = take-append-drop (labelSize * n) out
 
--- words written in two parts
+-- words written over an output in two parts are written one behind the other
 over-append : (a b out : List ℕ) → over (a ++ b) out ≡ a ++ over b (drop (length a) out)
 unfolding over
 over-append a b out =
     append-assoc a b (drop (length (a ++ b)) out) ∙
     ap (λ t. a ++ (b ++ t)) (ap (λ n. drop n out) (length-append a b) ∙ sym (drop-drop (length b) (length a) out))
 
--- one label more stands
+-- one label more stands in the output
 pub written-more : (l : Label) (n : ℕ) (out : List ℕ) → length l ≤ maxDepth → labelSize * n + labelSize ≤ length out → (ls : List Label) →
     written (l ∷ ls) n out ≡ written ls (n + 1) (words.written (labelSize * n) (labelWords l) out)
 unfolding written labelsWords joined

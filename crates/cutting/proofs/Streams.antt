@@ -31,7 +31,7 @@ stream-cons want e es = go (asks want (e .name))
 abbrev pub streamFrom : ℕ → ℕ → List ℕ → ℕ → List Label
 streamFrom want count ws r = stream want (drop r (elements count ws))
 
--- behind the last record it is empty
+-- behind the last record the stream is empty
 pub stream-end : (want count : ℕ) (ws : List ℕ) (r : ℕ) → count ≤ r → streamFrom want count ws r ≡ []
 unfolding stream keep
 stream-end want count ws r h =
@@ -50,28 +50,28 @@ module _ (want count : ℕ) (ws : List ℕ) (r : ℕ) (h : r < count) where
       ap (stream want) split ∙ stream-cons want e (drop (r + 1) es)
 
   module _ {b : Bool} (is : b ≡ asks want (readElement (recordAt r ws) .name)) where
-    -- a label that is asked for
+    -- a label that is asked for is the first of the stream
     pub stream-taken : b ≡ true → streamFrom want count ws r ≡ readElement (recordAt r ws) .label ∷ streamFrom want count ws (r + 1)
     stream-taken e = stream-next ∙ rw (← is, e)
 
-    -- one that is not
+    -- where the label of record r is not asked for, the stream begins behind it
     pub stream-left : b ≡ false → streamFrom want count ws r ≡ streamFrom want count ws (r + 1)
     stream-left e = stream-next ∙ rw (← is, e)
 
--- a count of the labels before record r
+-- n labels of the stream are counted before record r
 module _ (want count : ℕ) (ws : List ℕ) (r n : ℕ) (inv : n + length (streamFrom want count ws r) ≡ length (stream want (elements count ws))) where
-  -- at the end all are counted
+  -- at the end all labels of the stream are counted
   pub count-end : count ≤ r → n ≡ length (stream want (elements count ws))
   count-end h = let none : length (streamFrom want count ws r) ≡ 0 = ap (λ (ls : List Label). length ls) (stream-end want count ws r h) in omega arith
 
   module _ (h : r < count) {b : Bool} (is : b ≡ asks want (readElement (recordAt r ws) .name)) {m : ℕ} where
-    -- one more
+    -- a label that is asked for is counted
     pub count-taken : b ≡ true → m ≡ n + 1 → m + length (streamFrom want count ws (r + 1)) ≡ length (stream want (elements count ws))
     count-taken e f =
         let one : length (streamFrom want count ws r) ≡ length (streamFrom want count ws (r + 1)) + 1 =
         ap (λ (ls : List Label). length ls) (stream-taken want count ws r h is e) ∙ sym (add-one _) in
         omega arith
 
-    -- no more
+    -- a label that is not asked for is not counted
     pub count-left : b ≡ false → m ≡ n → m + length (streamFrom want count ws (r + 1)) ≡ length (stream want (elements count ws))
     count-left e f = rw (f, ← stream-left want count ws r h is e) inv

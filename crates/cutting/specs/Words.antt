@@ -6,5 +6,5 @@ use Rattle.storage.specs.Store.{laidOut}
 use Rattle.records.specs.Records.{recordAt}
 
 -- each record in use is laid out as it must be
-abbrev pub Laid : ℕ → List ℕ → Type 0
-Laid count ws = (r : ℕ) → r < count → T (laidOut (recordAt r ws))
+abbrev pub AllLaid : ℕ → List ℕ → Type 0
+AllLaid count ws = (r : ℕ) → r < count → T (laidOut (recordAt r ws))

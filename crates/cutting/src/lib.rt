@@ -6,7 +6,7 @@ use refusals::Listing;
 use refusals::Refusal;
 use refusals::Verdict;
 use refusals::refuse;
-use store_checks::store_check;
+use store_checks::store_verdict;
 use twigs::asks;
 use twigs::is_asked;
 use words::put_label;
@@ -18,12 +18,12 @@ ghost use Rattle.basics.specs.Limits.{labelSize, recordSize};
 ghost use Rattle.embeddings.specs.Matches.{labelsWords};
 ghost use Rattle.embeddings.specs.Matches as matches;
 ghost use Rattle.storage.specs.Store.{readElement, elements};
-ghost use Rattle.cut_calls.specs.Cutting as model;
+ghost use Rattle.cut_calls.specs.Cutting as spec;
 ghost use Rattle.refusals.specs.Answers.{filled, listingOf};
 ghost use Rattle.records.specs.Records.{recordAt};
-ghost use Rattle.cutting.specs.Words.{Laid};
+ghost use Rattle.cutting.specs.Words.{AllLaid};
 
-// Record r has a name that is asked for.
+// Whether record r has a name that is asked for.
 fn is_taken(store: &[u16], r: usize, want: u8) -> bool
     requires { ⌜ r * 20 + 20 ≤ length (now store) ⌝ }
     ensures { λ b. ⌜ b ≡ matches.asks want (readElement (recordAt r (now (store .entry))) .name) ⌝ }
@@ -31,10 +31,10 @@ fn is_taken(store: &[u16], r: usize, want: u8) -> bool
     asks(want, store[r * Store::RECORD_WORDS + Store::NAME])
 }
 
-// How many labels the stream has.
+// How many labels the stream of a name has.
 fn stream_len(store: &[u16], count: usize, want: u8) -> usize
     requires { ⌜ recordSize * count ≤ length (now store) ⌝ }
-    ensures { λ n. ⌜ n ≡ length (model.stream want (elements count (now (store .entry)))) ⌝ }
+    ensures { λ n. ⌜ n ≡ length (spec.stream want (elements count (now (store .entry)))) ⌝ }
 {
     let mut n: usize = 0;
     let mut r: usize = 0;
@@ -47,10 +47,10 @@ fn stream_len(store: &[u16], count: usize, want: u8) -> usize
     n
 }
 
-// The stream, written from the start of an output that holds it.
+// Writes the stream of a name from the start of an output that holds it.
 fn write_stream(store: &[u16], count: usize, want: u8, out: &mut [u16])
-    requires { ⌜ (recordSize * count ≤ length (now store)) × Laid count (now store) × (labelSize * length (model.stream want (elements count (now store))) ≤ length (now out)) ⌝ }
-    ensures { λ u. ⌜ now (out .exit) ≡ over (labelsWords (model.stream want (elements count (now (store .entry))))) (now (out .entry)) ⌝ }
+    requires { ⌜ (recordSize * count ≤ length (now store)) × AllLaid count (now store) × (labelSize * length (spec.stream want (elements count (now store))) ≤ length (now out)) ⌝ }
+    ensures { λ u. ⌜ now (out .exit) ≡ over (labelsWords (spec.stream want (elements count (now (store .entry))))) (now (out .entry)) ⌝ }
 {
     let mut at: usize = 0;
     let mut r: usize = 0;
@@ -63,11 +63,11 @@ fn write_stream(store: &[u16], count: usize, want: u8, out: &mut [u16])
     }
 }
 
-// Cutting: 22, 18, 19, 7, 17. A refusal leaves the output as it was.
+// Cutting, 22, 18, 19, 7, 17: the stream of a name is written to the output. A refusal leaves the output as it was.
 pub fn cut(table: Table, store: &[u16], count: usize, want: u8, out: &mut [u16]) -> Listing
-    ensures { λ r. ⌜ filled r (now (out .exit)) ≡ listingOf (model.cut table (now (store .entry)) count want (now (out .entry))) ⌝ }
+    ensures { λ r. ⌜ filled r (now (out .exit)) ≡ listingOf (spec.cut table (now (store .entry)) count want (now (out .entry))) ⌝ }
 {
-    let checked = store_check(&table, store, count);
+    let checked = store_verdict(&table, store, count);
     let Verdict::Passed = checked else {
         return Listing::refused(checked);
     };

@@ -9,7 +9,7 @@ use lib.ListN.{length, getD, take, drop, set, replicate, take-append-drop, lengt
 use lib.Seq.{take-all, take-suc, set-at}
 use Rattle.basics.specs.Basics.{elim?, last}
 use Rattle.basics.specs.Limits.{maxDepth, labelSize}
-use Rattle.basics.specs.Refusals.{emptyClue}
+use Rattle.basics.specs.Refusals.{refuse, emptyClue}
 use Rattle.naming.specs.Names.{Clues, led}
 use Rattle.labelling.specs.Labels.{Label, path, stuck, decode, pathCheck, namesIn}
 use Rattle.basics.proofs.Lists.{last-snoc}
@@ -18,9 +18,11 @@ use Rattle.clues.specs.Answers.{childOf}
 use Rattle.clues.proofs.Children.{child-name, child-nowhere}
 use Rattle.clues.specs.declared.Child.{Child}
 use Rattle.clues.specs.declared.Child.the-variants as child
+use Rattle.refusals.specs.declared.Verdict.{Verdict}
 use Rattle.refusals.specs.declared.Verdict.the-variants as verdict
+use Rattle.refusals.specs.Answers.{verdictOf}
 use Rattle.decoding.specs.declared.Decoding.{Decoding}
-use Rattle.decoding.specs.Answers.{refusedBy, decodedBy}
+use Rattle.decoding.specs.Answers.{decodingRefused, decodedBy}
 
 -- after i components: the name reached is p, and the names so far fill the first i + 1 places
 pub record Walked (cl : Clues) (root : ℕ) (l : Label) (p i : ℕ) (names : List ℕ) : Type 0 where
@@ -30,7 +32,7 @@ pub record Walked (cl : Clues) (root : ℕ) (l : Label) (p i : ℕ) (names : Lis
   pub reached : last so-far ≡ p
   pub held : names ≡ so-far ++ replicate (maxDepth - i) 0
 
--- at the root
+-- before the first component the name reached is the root's
 pub walk-from : (cl : Clues) (root : ℕ) (l : Label) → Walked cl root l root 0 (root ∷ replicate maxDepth 0)
 unfolding decode last
 walk-from cl root l = record { so-far = root ∷ []; decoded = refl; many = refl; reached = refl; held = refl }
@@ -46,21 +48,21 @@ module _ (cl : Clues) (root : ℕ) (l : Label) (p i : ℕ) (names : List ℕ) (w
       rw (e, left) (ap {B = Decoding} (λ ns. record { verdict = verdict.Passed; names = ns }) (w .held))
 
   module _ (h : i < length l) where
-    -- one component more
+    -- the first i + 1 components are the first i and component i
     next : take (i + 1) l ≡ take i l ++ (getD l i 0 ∷ [])
     next = ap (λ n. take n l) (add-one i) ∙ take-suc l i 0 h
 
     -- a component that leads nowhere is refused, 16 at the component
-    pub walk-stuck : {x : Child} {r : Decoding} → x ≡ childOf (led (cl p) (getD l i 0)) → x ≡ child.Nowhere → r ≡ refusedBy emptyClue (i + 1) →
-        r ≡ decodedBy (decode cl root l)
+    pub walk-stuck : {x : Child} {u : Verdict} {r : Decoding} → x ≡ childOf (led (cl p) (getD l i 0)) → x ≡ child.Nowhere →
+        u ≡ verdictOf (refuse emptyClue (i + 1)) → r ≡ decodingRefused u → r ≡ decodedBy (decode cl root l)
     unfolding pathCheck namesIn further elim?
-    walk-stuck e nowhere f =
+    walk-stuck e nowhere g f =
         let now : decode cl root (take (i + 1) l) ≡ stuck (i + 1) =
         ap (decode cl root) next ∙ decode-snoc cl root (take i l) (getD l i 0) ∙
         rw (w .decoded, w .reached, ← child-nowhere (led (cl p) (getD l i 0)) e nowhere, w .many) in
         let all : decode cl root l ≡ stuck (i + 1) =
         ap (decode cl root) (sym (take-append-drop (i + 1) l)) ∙ stuck-more cl root (take (i + 1) l) (drop (i + 1) l) (i + 1) now in
-        f ∙ sym (ap decodedBy all)
+        f ∙ ap decodingRefused g ∙ sym (ap decodedBy all)
 
     -- a component that leads to a name puts it into the next place
     pub walk-on : {x : Child} {c : ℕ} → x ≡ childOf (led (cl p) (getD l i 0)) → x ≡ child.Name c → length l ≤ maxDepth →

@@ -8,13 +8,13 @@ use names::Table;
 use refusals::Refusal;
 use refusals::Verdict;
 use refusals::refuse;
-use table_checks::table_check;
+use table_checks::table_verdict;
 ghost use mathlib.Core.Path.{_≡_};
 ghost use Prim.Native.Nat.{_≤_};
 ghost use lib.ListN.{length};
 ghost use Rattle.naming.specs.Names.{cluesOf};
-ghost use Rattle.labelling.specs.Labels as model;
-ghost use Rattle.decoding.specs.Answers.{refusedBy, decodedBy, decodingOf};
+ghost use Rattle.labelling.specs.Labels as spec;
+ghost use Rattle.decoding.specs.Answers.{decodingRefused, decodedBy, decodingOf};
 
 // What decoding answers: the depth + 1 names from the root, the rest of sixteen places 0.
 pub struct Decoding {
@@ -22,12 +22,12 @@ pub struct Decoding {
     pub names: [u8; 16],
 }
 
-// A refusal gives no names, all zeros.
-fn refused(number: u8, place: usize) -> Decoding
-    ensures { λ r. ⌜ r ≡ refusedBy number place ⌝ }
+// The answer of a refused call: no names, all zeros.
+fn refused(verdict: Verdict) -> Decoding
+    ensures { λ r. ⌜ r ≡ decodingRefused verdict ⌝ }
 {
     Decoding {
-        verdict: refuse(number, place),
+        verdict,
         names: [0u8; 16],
     }
 }
@@ -35,7 +35,7 @@ fn refused(number: u8, place: usize) -> Decoding
 // The names along components, from a root name on.
 fn walk(table: &Table, root: u8, parts: &[u16]) -> Decoding
     requires { ⌜ length (now parts) ≤ 15 ⌝ }
-    ensures { λ r. ⌜ r ≡ decodedBy (model.decode (cluesOf (now (table .entry))) root (now (parts .entry))) ⌝ }
+    ensures { λ r. ⌜ r ≡ decodedBy (spec.decode (cluesOf (now (table .entry))) root (now (parts .entry))) ⌝ }
 {
     let mut names = [0u8; 16];
     names[0] = root;
@@ -43,7 +43,7 @@ fn walk(table: &Table, root: u8, parts: &[u16]) -> Decoding
     let mut i: usize = 0;
     while i < parts.len() {
         let Child::Name(c) = child_of(table, p, parts[i]) else {
-            return refused(Refusal::EMPTY_CLUE, i + 1);
+            return refused(refuse(Refusal::EMPTY_CLUE, i + 1));
         };
         p = c as usize;
         i += 1;
@@ -57,16 +57,16 @@ fn walk(table: &Table, root: u8, parts: &[u16]) -> Decoding
 
 // Decoding: 22, 21, 15, 16.
 pub fn decode(table: Table, root: u8, label: &[u16]) -> Decoding
-    ensures { λ r. ⌜ r ≡ decodingOf (model.decodeCall table root (now (label .entry))) ⌝ }
+    ensures { λ r. ⌜ r ≡ decodingOf (spec.decodeCall table root (now (label .entry))) ⌝ }
 {
-    let Verdict::Passed = table_check(&table) else {
-        return refused(Refusal::BAD_TABLE, 0);
-    };
+    if let Verdict::Refused(refusal) = table_verdict(&table) {
+        return refused(Verdict::Refused(refusal));
+    }
     if MAX_NAME < root {
-        return refused(Refusal::BAD_ROOT, 0);
+        return refused(refuse(Refusal::BAD_ROOT, 0));
     }
     if !is_label(label) {
-        return refused(Refusal::NOT_LABEL, 0);
+        return refused(refuse(Refusal::NOT_LABEL, 0));
     }
     walk(&table, root, components(label))
 }

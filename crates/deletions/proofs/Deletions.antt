@@ -1,4 +1,5 @@
--- What a deletion leaves of the words of a sound store: the records of the label's subtree taken out, zeros at the end.
+-- What a deletion leaves of the words of a sound store:
+-- the records of the label's subtree taken out, and zeros at the end.
 use Prim.Native.Nat.{ℕ, _-_, _*_, _<_, _≤_}
 use mathlib.Core.Path.{_≡_, sym, ap, ap₂, _∙_}
 use mathlib.Core.Bool.{true}
@@ -7,7 +8,7 @@ use mathlib.Core.Option.{some, none}
 use native.Mathlib.Omega.{arith}
 use lib.ListN.{length, take, drop, replicate, length-append, length-drop, length-replicate}
 use lib.Seq.{length-take-le, take-take}
-use Rattle.basics.specs.Basics.{over}
+use Rattle.basics.specs.Basics.{over, leading}
 use Rattle.basics.specs.Limits.{recordSize}
 use Rattle.naming.specs.Names.{Clues}
 use Rattle.labelling.specs.Labels.{Label}
@@ -15,7 +16,7 @@ use Rattle.storage.specs.Store.{Element, storeWords, elements, soundCheck}
 use Rattle.store_calls.specs.Updates.{without}
 use Rattle.storage.proofs.Sizes.{length-elements-read}
 use Rattle.moving.specs.Moves.{removed}
-use Rattle.lookup.specs.Places.{placeAt, passes, leading}
+use Rattle.lookup.specs.Places.{placeAt, passes}
 use Rattle.lookup.proofs.Places.{searchable, place-leading, place-before-end, without-leading}
 use Rattle.changes.proofs.Splices.{words-gap}
 use Rattle.changes.proofs.InUse.{records-behind, subtree-end, sound-fit, sound-words}
@@ -47,18 +48,18 @@ remove-over ws a b count h k room =
 -- a deletion from a sound store, of the element at place a
 module _ (cl : Clues) (count : ℕ) (ws : List ℕ) (l : Label) (a : ℕ) (sound : soundCheck cl count ws ≡ none) (room : recordSize * count ≤ length ws)
     (at : placeAt l (elements count ws) ≡ some a) where
-  -- the end of its subtree is behind its place
+  -- the end of the label's subtree is behind its place
   before-end : a < leading (passes true l) (elements count ws)
   before-end = place-before-end l (elements count ws) a (searchable cl count ws room sound .ordered) at
 
-  -- what is left stands before the place and behind the end
+  -- the elements left are those before the place and those behind the end
   left-parts : without l (elements count ws) ≡ take a (elements count ws) ++ drop (leading (passes true l) (elements count ws)) (elements count ws)
   left-parts =
       let es : List Element = elements count ws in
       let ordered = searchable cl count ws room sound .ordered in
       without-leading l es ordered ∙ ap (λ n. take n es ++ drop (leading (passes true l) es) es) (sym (place-leading l es a ordered at))
 
-  -- as many as were there but for the subtree
+  -- as many elements are left as were there but for the subtree
   pub delete-count : length (without l (elements count ws)) ≡ count - (leading (passes true l) (elements count ws) - a)
   delete-count =
       let es : List Element = elements count ws in
@@ -67,7 +68,7 @@ module _ (cl : Clues) (count : ℕ) (ws : List ℕ) (l : Label) (a : ℕ) (sound
       ap length left-parts ∙
       omega (arith, length-append (take a es) (drop b es), length-take-le a es (omega (arith, before-end, subtree-end count ws l)), length-drop b es, before-end, subtree-end count ws l)
 
-  -- the words after a deletion
+  -- the words that a deletion leaves are those with the subtree's records taken out
   pub delete-words :
       over (storeWords (without l (elements count ws)) ++ replicate (recordSize * (count - length (without l (elements count ws)))) 0) ws ≡
       removed ws a (leading (passes true l) (elements count ws)) count

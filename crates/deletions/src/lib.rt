@@ -13,14 +13,14 @@ use refusals::refuse;
 ghost use mathlib.Core.Path.{_≡_};
 ghost use mathlib.Core.Option.{some};
 ghost use Rattle.storage.specs.Store.{elements};
-ghost use Rattle.store_calls.specs.Updates as model;
-ghost use Rattle.lookup.specs.Places.{placeAt, Searchable};
+ghost use Rattle.store_calls.specs.Updates as spec;
+ghost use Rattle.lookup.specs.Places.{placeAt, InLabelOrder};
 ghost use Rattle.changes.specs.Answers.{changed, changeOf};
 ghost use Rattle.deletions.specs.Answers.{subtreeRemoved};
 
-// The records of a label's subtree taken out, the first of which is a.
+// Takes out the records of a label's subtree, the first of which is a.
 fn remove_subtree(words: &mut [u16], count: usize, a: usize, label: &[u16]) -> Change
-    requires { ⌜ Searchable count (now words) × (placeAt (now label) (elements count (now words)) ≡ some a) ⌝ }
+    requires { ⌜ InLabelOrder count (now words) × (placeAt (now label) (elements count (now words)) ≡ some a) ⌝ }
     ensures { λ r. ⌜ changed r (now (words .exit)) ≡ subtreeRemoved (now (words .entry)) count a (now (label .entry)) ⌝ }
 {
     let end = subtree_end(words, count, label);
@@ -33,7 +33,7 @@ fn remove_subtree(words: &mut [u16], count: usize, a: usize, label: &[u16]) -> C
 
 // A deletion of the element with a label and of all below it: 22, 18, 19, 15, 14, 9.
 pub fn delete(table: Table, words: &mut [u16], count: usize, label: &[u16]) -> Change
-    ensures { λ r. ⌜ changed r (now (words .exit)) ≡ changeOf (model.delete table (now (words .entry)) count (now (label .entry))) ⌝ }
+    ensures { λ r. ⌜ changed r (now (words .exit)) ≡ changeOf (spec.delete table (now (words .entry)) count (now (label .entry))) ⌝ }
 {
     let called = check_call(&table, words, count, label);
     let Verdict::Passed = called else {

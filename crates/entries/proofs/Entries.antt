@@ -1,4 +1,5 @@
--- What an entry leaves of the words of a sound store: the parent's next number raised, a record put in behind the parent's subtree.
+-- What an entry leaves of the words of a sound store:
+-- the parent's next number raised, and a record put in behind the parent's subtree.
 use Prim.Native.Nat.{ℕ, _+_, _*_, _<_, _≤_}
 use mathlib.Core.Path.{_≡_, sym, ap, ap₂, _∙_}
 use mathlib.Core.Bool.{true}
@@ -7,7 +8,7 @@ use mathlib.Core.Option.{some, none}
 use native.Mathlib.Omega.{arith}
 use lib.ListN.{length, take, drop, set, length-append, length-drop, length-set, length-map}
 use lib.Seq.{length-take-le, take-take, take-set-lt, drop-set-lt}
-use Rattle.basics.specs.Basics.{over}
+use Rattle.basics.specs.Basics.{over, leading}
 use Rattle.basics.specs.Limits.{maxDepth, recordSize, nextWord}
 use Rattle.naming.specs.Names.{Clues}
 use Rattle.labelling.specs.Labels.{Label}
@@ -17,7 +18,7 @@ use Rattle.basics.proofs.Lists.{for-map}
 use Rattle.storage.proofs.Sizes.{length-elements-read}
 use Rattle.storage.proofs.Words.{length-elementWords}
 use Rattle.moving.specs.Moves.{inserted}
-use Rattle.lookup.specs.Places.{placeAt, passes, leading}
+use Rattle.lookup.specs.Places.{placeAt, passes}
 use Rattle.lookup.proofs.Places.{searchable, placed-leading}
 use Rattle.changes.proofs.Splices.{words-splice}
 use Rattle.entries.proofs.Raises.{leading-raised, words-raised}
@@ -43,14 +44,14 @@ insert-over ws out rec b count h room size rest =
 -- an entry into a sound store with a free record, below the element at place a
 module _ (cl : Clues) (count : ℕ) (ws : List ℕ) (l : Label) (a : ℕ) (sound : soundCheck cl count ws ≡ none) (room : recordSize * (count + 1) ≤ length ws)
     (at : placeAt l (elements count ws) ≡ some a) where
-  -- the next number raised
+  -- raising the next number of the element at place a sets one word
   raised-words : (f : ℕ) → storeWords (map (raised l f) (elements count ws)) ≡ take (recordSize * count) (set ws (a * recordSize + nextWord) f)
   raised-words f =
       words-raised l f (elements count ws) (sound-fit cl ws count sound) (searchable cl count ws (omega arith) sound .ordered) a at ∙
       ap (λ s. set s (a * recordSize + nextWord) f) (sound-words cl ws count sound (omega arith)) ∙
       sym (take-set-lt (recordSize * count) ws (a * recordSize + nextWord) f (omega (arith, place-used count ws l a at)))
 
-  -- and an element placed
+  -- with the next number raised and an element placed, the words have one record more
   placed-words : (f : ℕ) (new : Element) → length (new .label) ≤ maxDepth →
       over (storeWords (placed l new (map (raised l f) (elements count ws)))) ws ≡
       inserted (set ws (a * recordSize + nextWord) f) (leading (passes true l) (elements count ws)) count (elementWords new)
@@ -68,7 +69,7 @@ module _ (cl : Clues) (count : ℕ) (ws : List ℕ) (l : Label) (a : ℕ) (sound
       insert-over ws′ ws (elementWords new) b count most (omega (arith, length-set ws (a * recordSize + nextWord) f))
       (length-elementWords new shallow) (sym (drop-set-lt (recordSize * (count + 1)) ws (a * recordSize + nextWord) f (omega (arith, place-used count ws l a at))))
 
-  -- the words after an entry
+  -- the words that an entry leaves are those with the child written
   pub enter-words : length l < maxDepth → (name p0 p1 : ℕ) →
       over (storeWords (entered cl (elements count ws) (elementAt l (elements count ws)) name p0 p1)) ws ≡
       inserted (set ws (a * recordSize + nextWord) (given cl (elementAt l (elements count ws)) name + 1)) (leading (passes true l) (elements count ws)) count

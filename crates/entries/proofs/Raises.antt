@@ -9,20 +9,19 @@ use native.Mathlib.Nat.{zero-add, suc-add}
 use lib.ListN.{length, set}
 use lib.Seq.{set-append-left}
 use lib.Dec.{T}
-use Rattle.basics.specs.Basics.{_∈_, joined, Ascending, one-more}
+use Rattle.basics.specs.Basics.{_∈_, joined, Ascending, one-more, leading}
 use Rattle.basics.specs.Limits.{maxDepth, recordSize, nextWord}
 use Rattle.labelling.specs.Labels.{Label, before, same, labelWords}
-use Rattle.storage.specs.Store.{Element, elementWords, storeWords}
+use Rattle.storage.specs.Store.{Element, elementWords, storeWords, ahead}
 use Rattle.store_calls.specs.Updates.{raised}
 use Rattle.basics.proofs.Tests.{is-true, is-false, Tells, passes as told, fails as untold}
 use Rattle.basics.proofs.Lists.{here, there}
 use Rattle.labelling.proofs.LabelOrder.{before-order, same-alike, same?}
 use Rattle.labelling.proofs.LabelWords.{length-labelWords}
 use Rattle.storage.proofs.Words.{Fit, length-elementWords}
-use Rattle.storage.proofs.SoundStore.{ahead}
-use Rattle.lookup.specs.Places.{placeAt, passes, leading}
+use Rattle.lookup.specs.Places.{placeAt, passes}
 
--- a place behind a list
+-- setting a place behind a list leaves the list
 set-behind : {A : Type 0} (l m : List A) (i : ℕ) (a : A) → set (l ++ m) (length l + i) a ≡ l ++ set m i a
 set-behind [] m i a = ap (λ k. set m k a) (zero-add i)
 set-behind (x ∷ l) m i a = ap (λ k. set (x ∷ (l ++ m)) k a) (suc-add (length l) i) ∙ ap (_∷_ x) (set-behind l m i a)
@@ -33,12 +32,12 @@ module _ (l : Label) (f : ℕ) where
   unfolding raised
   raised-other e n = rw (is-false (same (e .label) l) (λ t. n (same-alike (e .label) l .0 t)))
 
-  -- and so do all where none has the label
+  -- where no element has the label, all stay
   raised-none : (es : List Element) → ((e : Element) → e ∈ es → e .label ≡ l → ⊥) → map (raised l f) es ≡ es
   raised-none [] n = refl
   raised-none (e ∷ es) n = ap₂ _∷_ (raised-other e (n e (here refl))) (raised-none es (λ x m. n x (there m)))
 
-  -- of the element with the label word 17 is changed
+  -- of the element with the label word 17 is changed, and no other
   raised-own : (e : Element) → length (e .label) ≤ maxDepth → e .label ≡ l → elementWords (raised l f e) ≡ set (elementWords e) nextWord f
   unfolding raised elementWords
   raised-own e fit h =
@@ -47,13 +46,13 @@ module _ (l : Label) (f : ℕ) where
       ap (λ n. set (labelWords (e .label) ++ t) (n + 1) f) (sym (length-labelWords (e .label) fit)) ∙ set-behind (labelWords (e .label)) t 1 f in
       rw (is-true (same (e .label) l) (same-alike (e .label) l .1 h)) (sym k)
 
-  -- raising changes no label, so as many pass as before
+  -- raising changes no label, so as many elements pass as before
   pub leading-raised : (s : Bool) (m : Label) (es : List Element) → leading (passes s m) (map (raised l f) es) ≡ leading (passes s m) es
   unfolding leading passes raised
   leading-raised s m [] = refl
   leading-raised s m (e ∷ es) = ap (λ n. cond (passes s m e) (suc n) 0) (leading-raised s m es)
 
-  -- of a store word 17 of the record at the label's place
+  -- of a store word 17 of the record at the label's place is changed, and no other
   pub words-raised : (es : List Element) → Fit es → Ascending ahead es → (a : ℕ) → placeAt l es ≡ some a →
       storeWords (map (raised l f) es) ≡ set (storeWords es) (a * recordSize + nextWord) f
   unfolding storeWords joined placeAt

@@ -25,10 +25,10 @@ ghost use lib.ListN.{length, getD};
 ghost use Rattle.naming.specs.Names.{cluesOf};
 ghost use Rattle.labelling.specs.Labels.{labelOf, isLabel};
 ghost use Rattle.storage.specs.Store.{readElement, elements};
-ghost use Rattle.store_calls.specs.Updates as model;
+ghost use Rattle.store_calls.specs.Updates as spec;
 ghost use Rattle.records.specs.Records.{recordAt};
-ghost use Rattle.lookup.specs.Places.{placeAt, Searchable};
-ghost use Rattle.additions.specs.Answers.{entered};
+ghost use Rattle.lookup.specs.Places.{placeAt, InLabelOrder};
+ghost use Rattle.additions.specs.Answers.{entryAndWords};
 ghost use Rattle.entries.specs.Answers.{entryOf, giftOf, enteredBelow};
 
 // What a parent gives a child: a number, or the refusal.
@@ -37,7 +37,7 @@ enum Gift {
     Refused(Refusal),
 }
 
-// What the parent at record a gives a child with a name. 10, 11, 12.
+// What the parent at record a gives a child with a name: 10, 11, 12.
 fn number_below(table: &Table, words: &[u16], a: usize, name: u8) -> Gift
     requires { ⌜ (a * 20 + 20 ≤ length (now words)) × (getD (now words) (a * 20) 0 ≤ 15) ⌝ }
     ensures { λ g. ⌜ g ≡ giftOf (cluesOf (now (table .entry))) (readElement (recordAt a (now (words .entry)))) name ⌝ }
@@ -66,7 +66,7 @@ fn number_below(table: &Table, words: &[u16], a: usize, name: u8) -> Gift
     Gift::Number(x)
 }
 
-// An entry below the record a, which has the label `parent`. 10, 11, 12, 13.
+// An entry below the record a, which has the label `parent`: 10, 11, 12, 13.
 fn enter_below(
     table: &Table,
     words: &mut [u16],
@@ -76,8 +76,8 @@ fn enter_below(
     name: u8,
     payload: [u16; 2],
 ) -> Entry
-    requires { ⌜ Searchable count (now words) × (isLabel (now parent) ≡ true) × (placeAt (labelOf (now parent)) (elements count (now words)) ≡ some a) ⌝ }
-    ensures { λ r. ⌜ entered r (now (words .exit)) ≡ enteredBelow (cluesOf (now (table .entry))) (now (words .entry)) count a (labelOf (now (parent .entry))) name (getD payload 0 0) (getD payload 1 0) ⌝ }
+    requires { ⌜ InLabelOrder count (now words) × (isLabel (now parent) ≡ true) × (placeAt (labelOf (now parent)) (elements count (now words)) ≡ some a) ⌝ }
+    ensures { λ r. ⌜ entryAndWords r (now (words .exit)) ≡ enteredBelow (cluesOf (now (table .entry))) (now (words .entry)) count a (labelOf (now (parent .entry))) name (getD payload 0 0) (getD payload 1 0) ⌝ }
 {
     match number_below(table, words, a, name) {
         Gift::Refused(r) => refused(Verdict::Refused(r), count),
@@ -94,7 +94,7 @@ pub fn enter(
     name: u8,
     payload: [u16; 2],
 ) -> Entry
-    ensures { λ r. ⌜ entered r (now (words .exit)) ≡ entryOf (model.enter table (now (words .entry)) count (now (parent .entry)) name (getD payload 0 0) (getD payload 1 0)) ⌝ }
+    ensures { λ r. ⌜ entryAndWords r (now (words .exit)) ≡ entryOf (spec.enter table (now (words .entry)) count (now (parent .entry)) name (getD payload 0 0) (getD payload 1 0)) ⌝ }
 {
     let called = check_call(&table, words, count, parent);
     let Verdict::Passed = called else {

@@ -1,12 +1,12 @@
 // The checks of a table, a store and a twig for a host program: the refusal's number and place, and no value.
-use answers::tell;
+use host_answers::tell;
 use table_bytes::table_in;
 ghost use mathlib.Core.Path.{_≡_};
 ghost use Rattle.naming.specs.Names.{tableCheck};
 ghost use Rattle.patterns.specs.Twigs.{twigCheck};
 ghost use Rattle.store_checks.specs.Stores.{storeCheck};
 ghost use Rattle.table_bytes.specs.Rows.{tableIn};
-ghost use Rattle.answers.specs.Reports.{report, reportOf};
+ghost use Rattle.host_answers.specs.Reports.{report, reportOf};
 
 // The check of a table: 22.
 #[no_mangle]

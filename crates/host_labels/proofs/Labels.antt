@@ -1,11 +1,11 @@
 -- What is told of kinship, of follows and of decoding.
--- Assumes nothing.
 use Prim.Native.Nat.{ℕ}
 use mathlib.Core.Path.{_≡_, ap, _∙_}
 use mathlib.Core.Bool.{Bool, cond}
 use mathlib.Core.List.{List}
 use native.Mathlib.Omega.{arith}
-use Rattle.basics.specs.Refusals as model
+use Rattle.naming.specs.Names.{Table}
+use Rattle.basics.specs.Refusals as spec
 use Rattle.labelling.specs.Labels.{decodeCall}
 use Rattle.refusals.specs.Answers.{refusalOf}
 use Rattle.refusals.specs.declared.Refusal.{Refusal}
@@ -18,44 +18,44 @@ use Rattle.kinship.specs.declared.FollowsAnswer.the-variants as follows
 use Rattle.decoding.specs.Answers.{decodingOf}
 use Rattle.decoding.specs.declared.Decoding.{Decoding}
 use Rattle.table_bytes.specs.Rows.{tableIn}
-use Rattle.answers.specs.Reports.{fitted, Report, reportBy, reportOf}
-use Rattle.answers.proofs.Verdicts.{told-check}
+use Rattle.host_answers.specs.Reports.{fitted, Report, reportBy, reportOf}
+use Rattle.host_answers.proofs.Verdicts.{told-check}
 use Rattle.host_labels.specs.Calls.{kinshipReport, followsReport}
 
--- a kinship
-pub kinship-taken : (a : model.Reply ℕ) (answer : List ℕ) {k : KinshipAnswer} {n : ℕ} {x : Report} →
+-- where kinship answers a number, that number is told
+pub kinship-taken : (a : spec.Reply ℕ) (answer : List ℕ) {k : KinshipAnswer} {n : ℕ} {x : Report} →
     k ≡ kinshipOf a → k ≡ kinship.Is n → x ≡ reportBy verdict.Passed n answer → x ≡ kinshipReport a answer
-kinship-taken (model.value m) answer {k} {n} is e told = let z : n ≡ m = cc in told ∙ ap (λ j. reportBy verdict.Passed j answer) z
-kinship-taken (model.refused r) answer is e told = absurd (let z : _≡_ {A = ℕ} 0 1 = cc in omega arith)
+kinship-taken (spec.value m) answer {k} {n} is e told = let z : n ≡ m = cc in told ∙ ap (λ j. reportBy verdict.Passed j answer) z
+kinship-taken (spec.refused r) answer is e told = absurd (let z : _≡_ {A = ℕ} 0 1 = cc in omega arith)
 
--- a refusal of kinship
-pub kinship-refused : (a : model.Reply ℕ) (answer : List ℕ) {k : KinshipAnswer} {r : Refusal} {x : Report} →
+-- where kinship is refused, the refusal is told
+pub kinship-refused : (a : spec.Reply ℕ) (answer : List ℕ) {k : KinshipAnswer} {r : Refusal} {x : Report} →
     k ≡ kinshipOf a → k ≡ kinship.Refused r → x ≡ reportBy (verdict.Refused r) 0 answer → x ≡ kinshipReport a answer
-kinship-refused (model.value m) answer is e told = absurd (let z : _≡_ {A = ℕ} 0 1 = cc in omega arith)
-kinship-refused (model.refused q) answer {k} {r} is e told = let z : r ≡ refusalOf q = cc in told ∙ ap (λ w. reportBy (verdict.Refused w) 0 answer) z
+kinship-refused (spec.value m) answer is e told = absurd (let z : _≡_ {A = ℕ} 0 1 = cc in omega arith)
+kinship-refused (spec.refused q) answer {k} {r} is e told = let z : r ≡ refusalOf q = cc in told ∙ ap (λ w. reportBy (verdict.Refused w) 0 answer) z
 
--- whether a label follows
-pub follows-taken : (a : model.Reply Bool) (answer : List ℕ) {k : FollowsAnswer} {b : Bool} {n : ℕ} {x : Report} →
+-- where follows answers, 1 or 0 is told
+pub follows-taken : (a : spec.Reply Bool) (answer : List ℕ) {k : FollowsAnswer} {b : Bool} {n : ℕ} {x : Report} →
     k ≡ followsOf a → k ≡ follows.Is b → n ≡ cond b 1 0 → x ≡ reportBy verdict.Passed n answer → x ≡ followsReport a answer
-follows-taken (model.value c) answer {k} {b} is e f told =
+follows-taken (spec.value c) answer {k} {b} is e f told =
     let z : b ≡ c = cc in told ∙ ap (λ j. reportBy verdict.Passed j answer) (f ∙ ap (λ d. cond d 1 0) z)
-follows-taken (model.refused r) answer is e f told = absurd (let z : _≡_ {A = ℕ} 0 1 = cc in omega arith)
+follows-taken (spec.refused r) answer is e f told = absurd (let z : _≡_ {A = ℕ} 0 1 = cc in omega arith)
 
--- a refusal of follows
-pub follows-refused : (a : model.Reply Bool) (answer : List ℕ) {k : FollowsAnswer} {r : Refusal} {x : Report} →
+-- where follows is refused, the refusal is told
+pub follows-refused : (a : spec.Reply Bool) (answer : List ℕ) {k : FollowsAnswer} {r : Refusal} {x : Report} →
     k ≡ followsOf a → k ≡ follows.Refused r → x ≡ reportBy (verdict.Refused r) 0 answer → x ≡ followsReport a answer
-follows-refused (model.value c) answer is e told = absurd (let z : _≡_ {A = ℕ} 0 1 = cc in omega arith)
-follows-refused (model.refused q) answer {k} {r} is e told = let z : r ≡ refusalOf q = cc in told ∙ ap (λ w. reportBy (verdict.Refused w) 0 answer) z
+follows-refused (spec.value c) answer is e told = absurd (let z : _≡_ {A = ℕ} 0 1 = cc in omega arith)
+follows-refused (spec.refused q) answer {k} {r} is e told = let z : r ≡ refusalOf q = cc in told ∙ ap (λ w. reportBy (verdict.Refused w) 0 answer) z
 
-module _ (bytes : List ℕ) (root : ℕ) (label : List ℕ) {t : List (List ℕ)} (read : t ≡ tableIn bytes) {r : Decoding} (is : r ≡ decodingOf (decodeCall t root label)) where
-  -- decoding under a table's bytes
+module _ (bytes : List ℕ) (root : ℕ) (label : List ℕ) {t : Table} (read : t ≡ tableIn bytes) {r : Decoding} (is : r ≡ decodingOf (decodeCall t root label)) where
+  -- decoding by a table's bytes is decoding by the table that they hold
   decoded : r ≡ decodingOf (decodeCall (tableIn bytes) root label)
   decoded = is ∙ ap (λ rows. decodingOf (decodeCall rows root label)) read
 
-  -- its refusal
+  -- what decoding refuses is told
   pub decode-told : (answer : List ℕ) {x : Report} → x ≡ reportBy (r .verdict) 0 answer → x ≡ reportOf (decodeCall (tableIn bytes) root label .refusal) 0 answer
   decode-told answer e = told-check (decodeCall (tableIn bytes) root label .refusal) 0 answer (ap (λ (d : Decoding). d .verdict) decoded) e
 
-  -- its names
+  -- the names that decoding answers are told
   pub decode-named : (names : List ℕ) {left : List ℕ} → left ≡ fitted (r .names) names → left ≡ fitted (decodeCall (tableIn bytes) root label .names) names
   decode-named names e = e ∙ ap (λ (d : Decoding). fitted (d .names) names) decoded

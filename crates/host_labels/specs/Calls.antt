@@ -4,14 +4,14 @@ use mathlib.Core.Bool.{Bool, cond}
 use mathlib.Core.List.{List}
 use mathlib.Core.Option.{none, some}
 use Rattle.basics.specs.Refusals.{Reply, value, refused}
-use Rattle.answers.specs.Reports.{Report, reportOf}
+use Rattle.host_answers.specs.Reports.{Report, reportOf}
 
--- kinship, 0 in a refusal
+-- what is told of kinship: its number, 0 in a refusal
 abbrev pub kinshipReport : Reply ℕ → List ℕ → Report
 kinshipReport (value k) answer = reportOf none k answer
 kinshipReport (refused r) answer = reportOf (some r) 0 answer
 
--- 1 for a label that follows, 0 for one that does not and in a refusal
+-- what is told of follows: 1 for a label that follows, 0 for one that does not and in a refusal
 abbrev pub followsReport : Reply Bool → List ℕ → Report
 followsReport (value b) answer = reportOf none (cond b 1 0) answer
 followsReport (refused r) answer = reportOf (some r) 0 answer

@@ -1,6 +1,7 @@
-// Labels for a host program: the names that one decodes to, and of two their kinship and whether one follows.
-use answers::tell;
-use answers::tell_names;
+// Labels for a host program: the names that a label decodes to,
+// the kinship of two labels, and whether one follows the other.
+use host_answers::tell;
+use host_answers::tell_names;
 use kinship::FollowsAnswer;
 use kinship::KinshipAnswer;
 use refusals::Verdict;
@@ -9,7 +10,7 @@ ghost use mathlib.Core.Path.{_≡_};
 ghost use mathlib.Core.Bool.{cond};
 ghost use Rattle.labelling.specs.Labels.{decodeCall, kinshipCall, followsCall};
 ghost use Rattle.table_bytes.specs.Rows.{tableIn};
-ghost use Rattle.answers.specs.Reports.{fitted, report, reportOf};
+ghost use Rattle.host_answers.specs.Reports.{fitted, report, reportOf};
 ghost use Rattle.host_labels.specs.Calls.{kinshipReport, followsReport};
 
 // The names that a label decodes to, sixteen of them: 22, 21, 15, 16. A refusal gives zeros.
@@ -43,7 +44,7 @@ pub extern "C" fn jiszteruk_kinship(first: &[u16], second: &[u16], answer: &mut 
     }
 }
 
-// 1 for yes, 0 for no.
+// The value of a yes or no: 1 for yes, 0 for no.
 fn number_of(yes: bool) -> usize
     ensures { λ r. ⌜ r ≡ cond yes 1 0 ⌝ }
 {

@@ -2,8 +2,8 @@
 use Prim.Native.Nat.{ℕ}
 use mathlib.Core.List.{List}
 use Rattle.basics.specs.Outputs.{Listing}
-use Rattle.answers.specs.Reports.{Report, reportOf}
+use Rattle.host_answers.specs.Reports.{Report, reportOf}
 
--- cutting and matching tell how many labels or matches there are
+-- what is told of cutting and matching: the refusal, and how many labels or matches there are
 abbrev pub listingReport : Listing → List ℕ → Report
 listingReport a answer = reportOf (a .refusal) (a .count) answer

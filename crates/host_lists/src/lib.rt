@@ -1,14 +1,15 @@
-// Lists for a host program: the stream of a name, and the matches of a twig. The value is how many there are.
-use answers::tell;
+// Lists for a host program: the stream of a name, and the matches of a twig.
+// The value is how many labels or matches there are.
+use host_answers::tell;
 use table_bytes::table_in;
 ghost use mathlib.Core.Path.{_≡_};
 ghost use Rattle.match_calls.specs.Matching.{matchCall};
 ghost use Rattle.cut_calls.specs.Cutting as cutting;
 ghost use Rattle.table_bytes.specs.Rows.{tableIn};
-ghost use Rattle.answers.specs.Reports.{report};
+ghost use Rattle.host_answers.specs.Reports.{report};
 ghost use Rattle.host_lists.specs.Calls.{listingReport};
 
-// The stream of a name, or of all for 255: 22, 18, 19, 7, 17. The value is how many labels it has.
+// The stream of a name, or of all names for 255: 22, 18, 19, 7, 17. The value is how many labels the stream has.
 #[no_mangle]
 pub extern "C" fn jiszteruk_cut(
     table: &[u8],
@@ -28,7 +29,7 @@ pub extern "C" fn jiszteruk_cut(
 
 // All matches of a twig over the streams of its leaves: 22, 21, 4 to 8, 20, 17. The value is how many there are.
 #[no_mangle]
-pub extern "C" fn jiszteruk_match(
+pub extern "C" fn jiszteruk_match_twig(
     table: &[u8],
     root: u8,
     twig: &[u8],

@@ -2,8 +2,8 @@
 use Prim.Native.Nat.{ℕ}
 use mathlib.Core.List.{List}
 use Rattle.store_calls.specs.Updates.{Answer}
-use Rattle.answers.specs.Reports.{Report, reportOf}
+use Rattle.host_answers.specs.Reports.{Report, reportOf}
 
--- a new store, an entry and a deletion tell the count
+-- what is told of a new store, an entry or a deletion: the refusal, and the count
 abbrev pub changeReport : Answer → List ℕ → Report
 changeReport a answer = reportOf (a .refusal) (a .count) answer

@@ -1,11 +1,11 @@
-// Stores for a host program: a new one, entry and deletion. The value is the count of records in use.
-use answers::tell;
-use answers::tell_label;
+// Stores for a host program: a new store, entry and deletion. The value is the count of records in use.
+use host_answers::tell;
+use host_answers::tell_label;
 use table_bytes::table_in;
 ghost use mathlib.Core.Path.{_≡_};
 ghost use Rattle.store_calls.specs.Updates as updates;
 ghost use Rattle.table_bytes.specs.Rows.{tableIn};
-ghost use Rattle.answers.specs.Reports.{fitted, report};
+ghost use Rattle.host_answers.specs.Reports.{fitted, report};
 ghost use Rattle.host_stores.specs.Calls.{changeReport};
 
 // A new store: 18, 21. The value is the count.
@@ -25,7 +25,8 @@ pub extern "C" fn jiszteruk_new_store(
     tell(verdict, opened.count, answer)
 }
 
-// An entry: 22, 18, 19, 15, 9, 10, 11, 12, 13. The value is the count; the new label is sixteen words, zeros in a refusal.
+// An entry, 22, 18, 19, 15, 9, 10, 11, 12, 13. The value is the count;
+// the new label is sixteen words, zeros in a refusal.
 #[no_mangle]
 pub extern "C" fn jiszteruk_enter(
     table: &[u8],

@@ -9,9 +9,9 @@ use Rattle.basics.specs.Limits.{tableSize}
 use Rattle.basics.specs.Refusals.{refuse, badTable}
 use Rattle.naming.specs.Names.{readNames}
 use Rattle.naming.specs.Examples.{benchTable}
-use Rattle.answers.specs.Reports.{Report, reportOf}
+use Rattle.host_answers.specs.Reports.{Report, reportOf}
 
--- a lent slice has room for a table, and for nothing else
+-- the test of a lent slice: whether it has room for a table, and for nothing else
 abbrev pub isTable : List ℕ → Bool
 isTable table = eqb (length table) (tableSize * tableSize)
 
@@ -19,7 +19,7 @@ isTable table = eqb (length table) (tableSize * tableSize)
 unfoldable pub readReport : List ℕ → List ℕ → List ℕ → Report
 readReport file table answer = cond (isTable table) (reportOf (readNames file .refusal) 0 answer) (reportOf (refuse badTable 0) 0 answer)
 
--- the table read, its rows one after the other; a slice that is no table's is left alone
+-- what a reading leaves: the table read, its rows one after the other; a slice that is no table's is left alone
 unfoldable pub tableRead : List ℕ → List ℕ → List ℕ
 tableRead file table = cond (isTable table) (joined (readNames file .table)) table
 
@@ -27,6 +27,6 @@ tableRead file table = cond (isTable table) (joined (readNames file .table)) tab
 unfoldable pub benchNumber : List ℕ → ℕ
 benchNumber table = cond (isTable table) 0 badTable
 
--- the bench's own table, its rows one after the other
+-- what the bench's own table leaves: its rows one after the other; a slice that is no table's is left alone
 unfoldable pub benchBytes : List ℕ → List ℕ
 benchBytes table = cond (isTable table) (joined benchTable) table

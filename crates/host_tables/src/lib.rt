@@ -1,12 +1,12 @@
-// Tables for a host program: one read from a child-name file, and the bench's own. A table is 4,096 bytes, row after row; a slice of another length is
-// refused by 22 and left alone.
-use answers::tell;
+// Tables for a host program: one read from a child-name file, and the bench's own.
+// A table is 4,096 bytes, row after row; a slice of another length is refused by 22 and left alone.
+use host_answers::tell;
 use refusals::Refusal;
 use refusals::refuse;
 use table_bytes::TABLE_BYTES;
 use table_bytes::put_table;
 ghost use mathlib.Core.Path.{_≡_};
-ghost use Rattle.answers.specs.Reports.{report};
+ghost use Rattle.host_answers.specs.Reports.{report};
 ghost use Rattle.host_tables.specs.Calls.{readReport, tableRead, benchNumber, benchBytes};
 
 // The table of a child-name file, written to an output: 22, 1, 2, 3. A refused file gives a table of empty clues.

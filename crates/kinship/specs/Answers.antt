@@ -1,4 +1,4 @@
--- What the answers of the code tell, by the definitions of `labelling`.
+-- What kinship and follows answer, by the definitions of `labelling`.
 use Prim.Native.Nat.{ℕ}
 use mathlib.Core.Bool.{Bool}
 use Rattle.basics.specs.Refusals.{Reply, value, refused}
@@ -8,12 +8,12 @@ use Rattle.kinship.specs.declared.KinshipAnswer.the-variants as kinship
 use Rattle.kinship.specs.declared.FollowsAnswer.{FollowsAnswer}
 use Rattle.kinship.specs.declared.FollowsAnswer.the-variants as follows
 
--- kinship, or the refusal
+-- what kinship answers: the number, or the refusal
 abbrev pub kinshipOf : Reply ℕ → KinshipAnswer
 kinshipOf (value k) = kinship.Is k
 kinshipOf (refused r) = kinship.Refused (refusalOf r)
 
--- whether the first label follows, or the refusal
+-- what follows answers: whether the first label follows the second, or the refusal
 abbrev pub followsOf : Reply Bool → FollowsAnswer
 followsOf (value b) = follows.Is b
 followsOf (refused r) = follows.Refused (refusalOf r)

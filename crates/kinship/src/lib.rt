@@ -8,20 +8,20 @@ ghost use mathlib.Core.Path.{_≡_};
 ghost use mathlib.Core.Bool.{_&&_};
 ghost use Prim.Native.Nat.{_≤_};
 ghost use lib.ListN.{length};
-ghost use Rattle.labelling.specs.Labels as model;
+ghost use Rattle.labelling.specs.Labels as spec;
 ghost use Rattle.kinship.specs.Answers.{kinshipOf, followsOf};
 
-// Kinship: the first label is the second one's ..
+// The kinship of two equal labels.
 pub const SAME: u8 = 0;
-
+// The kinship of a first label that is the parent of the second.
 pub const PARENT: u8 = 1;
-
+// The kinship of a first label that is an ancestor of the second above its parent.
 pub const HIGHER_ANCESTOR: u8 = 2;
-
+// The kinship of a first label that is a child of the second.
 pub const CHILD: u8 = 3;
-
+// The kinship of a first label that is a descendant of the second below its children.
 pub const DEEPER_DESCENDANT: u8 = 4;
-
+// The kinship of two labels of which neither is an ancestor of the other.
 pub const UNRELATED: u8 = 5;
 
 // What kinship answers: one of the six numbers, or the refusal.
@@ -30,7 +30,7 @@ pub enum KinshipAnswer {
     Refused(Refusal),
 }
 
-// What follows answers.
+// What follows answers: whether the first label follows the second, or the refusal.
 pub enum FollowsAnswer {
     Is(bool),
     Refused(Refusal),
@@ -39,7 +39,7 @@ pub enum FollowsAnswer {
 // Kinship of components to components, by the part that they share.
 fn kin(l: &[u16], m: &[u16]) -> u8
     requires { ⌜ (length (now l) ≤ 15) × (length (now m) ≤ 15) ⌝ }
-    ensures { λ r. ⌜ r ≡ model.kinship (now (l .entry)) (now (m .entry)) ⌝ }
+    ensures { λ r. ⌜ r ≡ spec.kinship (now (l .entry)) (now (m .entry)) ⌝ }
 {
     let s = shared(l, m);
     let p = l.len();
@@ -62,14 +62,14 @@ fn kin(l: &[u16], m: &[u16]) -> u8
     UNRELATED
 }
 
-// Both are labels.
+// Whether two lists of words are both labels.
 fn both_labels(a: &[u16], b: &[u16]) -> bool
-    ensures { λ r. ⌜ r ≡ (model.isLabel (now (a .entry)) && model.isLabel (now (b .entry))) ⌝ }
+    ensures { λ r. ⌜ r ≡ (spec.isLabel (now (a .entry)) && spec.isLabel (now (b .entry))) ⌝ }
 {
     is_label(a) && is_label(b)
 }
 
-// A refusal by 15.
+// The refusal by 15 of words that are no label.
 fn not_label() -> Refusal
     ensures { λ r. ⌜ (r .number ≡ 15) × (r .place ≡ 0) ⌝ }
 {
@@ -81,7 +81,7 @@ fn not_label() -> Refusal
 
 // Kinship of a first label to a second.
 pub fn kinship(a: &[u16], b: &[u16]) -> KinshipAnswer
-    ensures { λ r. ⌜ r ≡ kinshipOf (model.kinshipCall (now (a .entry)) (now (b .entry))) ⌝ }
+    ensures { λ r. ⌜ r ≡ kinshipOf (spec.kinshipCall (now (a .entry)) (now (b .entry))) ⌝ }
 {
     if !both_labels(a, b) {
         return KinshipAnswer::Refused(not_label());
@@ -93,7 +93,7 @@ pub fn kinship(a: &[u16], b: &[u16]) -> KinshipAnswer
 
 // Whether a first label follows a second.
 pub fn follows(a: &[u16], b: &[u16]) -> FollowsAnswer
-    ensures { λ r. ⌜ r ≡ followsOf (model.followsCall (now (a .entry)) (now (b .entry))) ⌝ }
+    ensures { λ r. ⌜ r ≡ followsOf (spec.followsCall (now (a .entry)) (now (b .entry))) ⌝ }
 {
     if !both_labels(a, b) {
         return FollowsAnswer::Refused(not_label());

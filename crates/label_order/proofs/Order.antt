@@ -25,7 +25,7 @@ shared-rest (x ∷ l) (y ∷ m) = go (eqb x y) (eq? x y) (shared-rest l m)
     go true (passes e) below = rw (e, le-ltb y y (omega arith), eq-eqb y y refl) below
     go false h below = refl
 
--- behind what two labels share they part
+-- two labels differ in the component behind the part that they share
 shared-parts : (l m : Label) → shared l m < length l → shared l m < length m → getD l (shared l m) 0 ≡ getD m (shared l m) 0 → ⊥
 unfolding shared
 shared-parts [] m h k e = absurd (omega arith)
@@ -43,16 +43,16 @@ module _ (l m : Label) {s : ℕ} (is : s ≡ shared l m) where
   rest : before l m ≡ before (drop s l) (drop s m)
   rest = shared-rest l m ∙ ap (λ s. before (drop s l) (drop s m)) (sym is)
 
-  -- all of the second is shared
+  -- where all of the second label is shared, the first is not before it
   pub order-none : length m ≤ s → false ≡ before l m
   order-none h = before-end l m s rest h
 
   module _ (h : s < length m) where
-    -- all of the first is shared, and not all of the second
+    -- where all of the first label is shared, and not all of the second, the first is before it
     pub order-prefix : length l ≤ s → true ≡ before l m
     order-prefix k = before-prefix l m s rest h k
 
-    -- the components behind the part shared decide
+    -- where neither label is shared whole, the components behind the shared part decide
     pub order-decided : s < length l → ltb (getD l s 0) (getD m s 0) ≡ before l m
     order-decided k = by-cases (decLt (getD l s 0) (getD m s 0))
         (λ e. lt-ltb _ _ e ∙ before-less l m s rest h k e)

@@ -2,12 +2,12 @@
 ghost use mathlib.Core.Path.{_≡_};
 ghost use Prim.Native.Nat.{_+_, _≤_};
 ghost use lib.ListN.{length, drop};
-ghost use Rattle.labelling.specs.Labels as model;
+ghost use Rattle.labelling.specs.Labels as spec;
 
 // How many leading components two labels share, the first `from` of them known.
 pub fn shared_from(a: &[u16], b: &[u16], from: usize) -> usize
-    requires { ⌜ (from ≤ length (now a)) × (model.shared (now a) (now b) ≡ from + model.shared (drop from (now a)) (drop from (now b))) ⌝ }
-    ensures { λ r. ⌜ r ≡ model.shared (now (a .entry)) (now (b .entry)) ⌝ }
+    requires { ⌜ (from ≤ length (now a)) × (spec.shared (now a) (now b) ≡ from + spec.shared (drop from (now a)) (drop from (now b))) ⌝ }
+    ensures { λ r. ⌜ r ≡ spec.shared (now (a .entry)) (now (b .entry)) ⌝ }
 {
     let mut i = from;
     while i < a.len() {
@@ -24,14 +24,14 @@ pub fn shared_from(a: &[u16], b: &[u16], from: usize) -> usize
 
 // How many leading components two labels share.
 pub fn shared(a: &[u16], b: &[u16]) -> usize
-    ensures { λ r. ⌜ r ≡ model.shared (now (a .entry)) (now (b .entry)) ⌝ }
+    ensures { λ r. ⌜ r ≡ spec.shared (now (a .entry)) (now (b .entry)) ⌝ }
 {
     shared_from(a, b, 0)
 }
 
 // Label order: the first label comes before the second.
 pub fn before(a: &[u16], b: &[u16]) -> bool
-    ensures { λ r. ⌜ r ≡ model.before (now (a .entry)) (now (b .entry)) ⌝ }
+    ensures { λ r. ⌜ r ≡ spec.before (now (a .entry)) (now (b .entry)) ⌝ }
 {
     let mut i: usize = 0;
     while i < b.len() {
@@ -53,8 +53,8 @@ pub fn before(a: &[u16], b: &[u16]) -> bool
 
 // Label order, by the part that two labels share.
 pub fn ordered(l: &[u16], m: &[u16], s: usize) -> bool
-    requires { ⌜ s ≡ model.shared (now l) (now m) ⌝ }
-    ensures { λ b. ⌜ b ≡ model.before (now (l .entry)) (now (m .entry)) ⌝ }
+    requires { ⌜ s ≡ spec.shared (now l) (now m) ⌝ }
+    ensures { λ b. ⌜ b ≡ spec.before (now (l .entry)) (now (m .entry)) ⌝ }
 {
     if m.len() <= s {
         return false;

@@ -1,5 +1,5 @@
--- `number` agrees with rules 2.1 and 2.2 of source document 004, except for a child of place 0 after a left sibling whose number leaves 0:
--- there the rules give the sibling's number again.
+-- `number` agrees with rules 2.1 and 2.2 of source document 004, but for one corner:
+-- to a child of place 0 after a left sibling whose number leaves 0 the rules give the sibling's number again.
 use mathlib.Core.Path.{_≡_, ap, _∙_}
 use mathlib.Core.Bool.{cond}
 use mathlib.Core.Option.{none, some}
@@ -11,15 +11,15 @@ use Rattle.labelling.specs.Numbers.{number, Least, articleNumber}
 use Rattle.basics.proofs.Tests.{passes, fails, le?}
 use Rattle.labelling.proofs.Number.{least-at, number-least}
 
--- there is one least number at most
+-- no two numbers are the least that is at least f and leaves k
 pub least-unique : (n k f x y : ℕ) → Least n k f x → Least n k f y → x ≡ y
 least-unique n k f x y a b = omega (arith, a .least y (b .high) (b .leaves), b .least x (a .high) (a .leaves))
 
--- a number that leaves k, at least f and less than a round above it, is the one given
+-- a number that leaves k, is at least f and less than a round above f is the one that `number` gives
 pub number-at : (n k f q : ℕ) → k < n → f ≤ q * n + k → q * n + k < f + n → number n k f ≡ q * n + k
 number-at n k f q small up down = least-unique n k f _ _ (number-least n k f small) (least-at n k f q small up down)
 
--- the first child gets its place
+-- the first child gets its place, by the rules and by `number`
 pub article-first : (n k : ℕ) → k < n → number n k 0 ≡ articleNumber n k none
 unfolding articleNumber
 article-first n k small =
@@ -36,7 +36,7 @@ rounded-up n y pos left =
     let t = suc-mul (suc (y / n)) n in
     ap (λ q. q * n) (div-eq-of-lt-le n (omega arith) (rw (add-one (suc (y / n))) (omega arith))) ∙ s
 
--- a number that leaves none is a multiple already
+-- a number that leaves no remainder is not changed by rounding up
 rounded-even : (n y : ℕ) → 0 < n → y % n ≡ 0 → (y + (n - 1)) / n * n ≡ y
 rounded-even n y pos even =
     let d = div-add-mod' y n in
@@ -44,7 +44,7 @@ rounded-even n y pos even =
     let e : y / n * n ≡ y = omega arith in
     ap (λ q. q * n) (div-eq-of-lt-le n (omega arith) (rw (add-one (y / n)) (omega arith))) ∙ e
 
--- after a left sibling the rules give the same number, except to place 0 after a number that leaves 0
+-- after a left sibling the rules and `number` agree, except for place 0 after a number that leaves 0
 pub article-agrees : (n k y : ℕ) → k < n → ((k ≡ 0) × (y % n ≡ 0) → ⊥) → number n k (y + 1) ≡ articleNumber n k (some y)
 unfolding articleNumber
 article-agrees n k y small off =
@@ -58,7 +58,7 @@ article-agrees n k y small off =
           number-at n k (y + 1) ((y + (n - 1)) / n) small (omega arith) (omega arith)
     ]
 
--- there they give the left sibling's number again, and `number` gives the next that leaves 0
+-- To place 0 after a number that leaves 0 the rules give that number again, and `number` the next that leaves 0.
 pub article-corner : (n y : ℕ) → 0 < n → y % n ≡ 0 → (articleNumber n 0 (some y) ≡ y) × (number n 0 (y + 1) ≡ y + n)
 unfolding articleNumber
 article-corner n y pos even = (

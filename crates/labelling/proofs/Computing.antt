@@ -4,7 +4,7 @@ use Rattle.labelling.specs.Labels.{before, shared, within, same, above, 
 use Rattle.labelling.specs.Examples.{labelChecks, labelRefusals}
 use Rattle.naming.proofs.Computing.{computing as below}
 
--- `unfolding computing` opens them all
+-- `unfolding computing` opens every definition named here
 unfoldable pub computing : Unit {0}
 unfolding below number articleNumber before shared within same above kinship follows behind decode endOf nameAt isComponent labelOf labelWords
     isLabel labelCheck pathCheck namesIn decodeRefusal decodeCall kinshipCall followsCall labelChecks labelRefusals

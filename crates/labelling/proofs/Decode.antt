@@ -40,7 +40,7 @@ pub record Starts (p : ℕ) (l : Label) (d : Decoded) : Type 0 where
   -- a label that is stuck is stuck at one of its components
   pub stops : (i : ℕ) → d ≡ stuck i → (1 ≤ i) × (i ≤ length l)
 
--- so does every label's
+-- what a label decodes to begins with the name it starts at, or is stuck at one of its components
 pub starts : (cl : Clues) (p : ℕ) (l : Label) → Starts p l (decode cl p l)
 unfolding decode behind elim?
 starts cl p [] = record { begins = λ ns e. ([], sym (path-names e), refl); stops = λ i e. absurd (stuck-path (sym e)) }
@@ -60,7 +60,7 @@ starts cl p (x ∷ l) = go (λ c. starts cl c l) (led (cl p) x)
     go ih none = record { begins = λ ns e. absurd (stuck-path e); stops = λ i e. let f : _≡_ {A = ℕ} 1 i = cc in omega arith }
     go ih (some c) = met (decode cl c l) (ih c)
 
--- a name in front and a component at the end change places
+-- putting a name in front and leading on by a component at the end give the same in either order
 behind-further : (cl : Clues) (p : ℕ) {c : ℕ} {l : Label} (d : Decoded) → Starts c l d → (k : ℕ) → behind p (further cl d k) ≡ further cl (behind p d) k
 unfolding further behind elim?
 behind-further cl p (stuck i) s k = refl
@@ -73,7 +73,7 @@ behind-further cl p (path (n ∷ ns)) s k = rw last-cons (go (led (cl (last (n �
     go none = refl
     go (some c) = refl
 
--- decoding one component more
+-- a label with one component more decodes to what the label decodes to, led on by that component
 pub decode-snoc : (cl : Clues) (p : ℕ) (l : Label) (k : ℕ) → decode cl p (l ++ (k ∷ [])) ≡ further cl (decode cl p l) k
 unfolding decode further elim? behind last
 decode-snoc cl p [] k = refl
@@ -84,14 +84,14 @@ decode-snoc cl p (x ∷ l) k = go (λ c. decode-snoc cl c l k) (led (cl p) x)
     go ih none = refl
     go ih (some c) = ap (behind p) (ih c) ∙ behind-further cl p (decode cl c l) (starts cl c l) k
 
--- a label that goes on from one that is stuck is stuck there too
+-- a label that goes on from a stuck one is stuck at the same component
 pub stuck-more : (cl : Clues) (p : ℕ) (l m : Label) (i : ℕ) → decode cl p l ≡ stuck i → decode cl p (l ++ m) ≡ stuck i
 stuck-more cl p l [] i e = ap (decode cl p) (append-nil l) ∙ e
 stuck-more cl p l (x ∷ m) i e =
     ap (decode cl p) (sym (append-assoc l (x ∷ []) m)) ∙
     stuck-more cl p (l ++ (x ∷ [])) m i (decode-snoc cl p l x ∙ ap (λ d. further cl d x) e ∙ unfold further in refl)
 
--- the names along a label begin with those along a label that it goes on from
+-- the names along a label are the first of those along any label that goes on from it
 pub decode-front : (cl : Clues) (p : ℕ) (l m : Label) (ns : List ℕ) → decode cl p (l ++ m) ≡ path ns → decode cl p l ≡ path (take (suc (length l)) ns)
 unfolding decode behind elim?
 decode-front cl p [] m ns e = let (rest, f, n) = starts cl p m .begins ns e in rw f
@@ -142,7 +142,7 @@ name-child cl p l k n e = ap endOf (decode-snoc cl p l k) ∙ go (decode cl p l)
     go (path ns) e = let f : last ns ≡ n = cc in rw f (end ns (led (cl n) k))
     go (stuck i) e = let z : _≡_ {A = Option ℕ} none (some n) = e in cc
 
--- the name that a label decodes to is the one its rest decodes to from the name that its first component leads to
+-- a label decodes to the name that its rest decodes to from the name that its first component leads to
 pub name-cons : (cl : Clues) (p x c : ℕ) (l : Label) → led (cl p) x ≡ some c → nameAt cl p (x ∷ l) ≡ nameAt cl c l
 unfolding nameAt endOf decode behind elim?
 name-cons cl p x c l e = rw e (go (decode cl c l) (starts cl c l))
@@ -156,14 +156,14 @@ name-cons cl p x c l e = rw e (go (decode cl c l) (starts cl c l))
 pub path-length : (cl : Clues) (p : ℕ) (l : Label) (ns : List ℕ) → decode cl p l ≡ path ns → length ns ≡ length l + 1
 path-length cl p l ns e = let (rest, f, n) = starts cl p l .begins ns e in omega (arith, ap length f)
 
--- the fact of refusal 16 for the component with j before it: those lead to a name with an empty clue
+-- the fact of refusal 16 for a component: the j components before it lead to a name with an empty clue
 pub record BelowEmpty (cl : Clues) (p : ℕ) (l : Label) (j : ℕ) : Type 0 where
   pub inside : j < length l
   pub names : List ℕ
   pub reached : decode cl p (take j l) ≡ path names
   pub empty : cl (last names) ≡ []
 
--- a component behind one that leads to a name stands as it does below that name
+-- a component below an empty clue stays so where a component that leads to the starting name is put in front
 below-later : (cl : Clues) (p c x : ℕ) (l : Label) (j : ℕ) → led (cl p) x ≡ some c → BelowEmpty cl c l j → BelowEmpty cl p (x ∷ l) (suc j)
 unfolding decode behind elim?
 below-later cl p c x l j d b = record {
@@ -173,7 +173,7 @@ below-later cl p c x l j d b = record {
   empty = let (rest, e, n) = starts cl c (take j l) .begins (b .names) (b .reached) in rw (e, last-cons p c rest, ← e) (b .empty);
 }
 
--- a label that is stuck is so at a component below a name with an empty clue
+-- a label that is stuck is stuck at a component below a name with an empty clue
 stuck-below : (cl : Clues) (p : ℕ) (l : Label) (j : ℕ) → decode cl p l ≡ stuck (suc j) → BelowEmpty cl p l j
 unfolding decode behind elim? last
 stuck-below cl p [] j e = absurd (stuck-path (sym e))

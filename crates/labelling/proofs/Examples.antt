@@ -4,7 +4,7 @@ use Rattle.basics.specs.Examples.{Hold}
 use Rattle.labelling.specs.Examples.{labelChecks, labelRefusals}
 use Rattle.labelling.proofs.Computing.{computing}
 
--- the definitions give what the paper says
+-- of labels the definitions give what the paper says
 pub label-checks : Hold labelChecks
 unfolding computing
 label-checks = refl

@@ -24,7 +24,7 @@ shared-alike (x ∷ l) (y ∷ m) = go (eqb x y) (eq? x y) (shared-alike l m)
     go true (passes e) below = ap₂ _∷_ e below
     go false (fails n) below = refl
 
--- they share no more components than the first has
+-- two labels share no more components than the first has
 pub shared-low : (l m : Label) → shared l m ≤ length l
 unfolding shared
 shared-low [] m = omega arith
@@ -35,25 +35,25 @@ shared-low (x ∷ l) (y ∷ m) = go (eqb x y) (shared-low l m)
     go true below = suc-le-suc below
     go false below = omega arith
 
--- labels that go on from one label share it
+-- labels that go on from one label share at least that label's components
 shared-append : (p l m : Label) → length p ≤ shared (p ++ l) (p ++ m)
 unfolding shared
 shared-append [] l m = omega arith
 shared-append (x ∷ p) l m = rw (is-true (eqb x x) (eqb-alike x x .1 refl)) (suc-le-suc (shared-append p l m))
 
--- no longer prefix is shared
+-- two labels share at least the components of any label that both go on from
 pub shared-most : (p l m : Label) → T (within p l) → T (within p m) → length p ≤ shared l m
 shared-most p l m h k =
     let (r, e) = within-iff p l .0 h in
     let (s, d) = within-iff p m .0 k in
     rw (e, d) (shared-append p r s)
 
--- a label shares all of itself with itself
+-- a label shares all of its components with itself
 pub shared-self : (l : Label) → shared l l ≡ length l
 unfolding within
 shared-self l = eqb→eq (shared l l) (length l) (within-self l)
 
--- what the first label shares with the second, the second shares with the first
+-- the second of two labels shares with the first no fewer components than the first with the second
 shared-back : (l m : Label) → shared l m ≤ shared m l
 shared-back l m =
     let p = take (shared l m) l in
@@ -61,7 +61,7 @@ shared-back l m =
     let on-m = within-iff p m .1 (drop (shared l m) m, rw (shared-alike l m) (sym (take-append-drop (shared l m) m))) in
     omega (arith, length-take-le (shared l m) l (shared-low l m), shared-most p m l on-m on-l)
 
--- two labels share as much either way
+-- two labels share as many components either way round
 pub shared-comm : (l m : Label) → shared l m ≡ shared m l
 shared-comm l m = omega (arith, shared-back l m, shared-back m l)
 
@@ -78,7 +78,7 @@ pub data Kin (l m : Label) : ℕ → Type 0 where
 unfoldable pub turned : ℕ → ℕ
 turned k = cond (eqb k 1) 3 (cond (eqb k 2) 4 (cond (eqb k 3) 1 (cond (eqb k 4) 2 k)))
 
--- labels exchanged turn their kinship
+-- exchanging two labels turns their kinship
 pub kinship-turned : (l m : Label) → kinship m l ≡ turned (kinship l m)
 unfolding kinship turned
 kinship-turned l m = go (within l m) (within m l) (eqb (length m) (length l + 1)) (eqb (length l) (length m + 1))
@@ -93,7 +93,7 @@ kinship-turned l m = go (within l m) (within m l) (eqb (length m) (length l + 1)
     go false true next false = refl
     go false false next back = refl
 
--- and so does what it says
+-- exchanging two labels turns what holds of them
 turn : {l m : Label} {k : ℕ} → Kin l m k → Kin m l (turned k)
 unfolding turned
 turn (same-label e) = same-label (sym e)
@@ -121,21 +121,21 @@ kinship-more l c rest =
     ) in
     rw (is-true (within l m) (within-iff l m .1 (c ∷ rest, refl)), is-false (within m l) (more-not-within l c rest), one)
 
--- kinship of a label to itself
+-- the kinship of a label to itself is 0
 kinship-self : (l : Label) → kinship l l ≡ 0
 unfolding kinship
 kinship-self l = rw (is-true (within l l) (within-self l))
 
--- kinship of labels neither of which goes on from the other
+-- labels of which neither goes on from the other have kinship 5
 kinship-apart : (l m : Label) → (T (within l m) → ⊥) → (T (within m l) → ⊥) → kinship l m ≡ 5
 unfolding kinship
 kinship-apart l m h k = rw (is-false (within l m) h, is-false (within m l) k)
 
--- kinship to a label two or more levels below
+-- the kinship of a label to one two or more levels below is 2
 kinship-deeper : (l : Label) (c d : ℕ) (rest : Label) → kinship l (l ++ (c ∷ d ∷ rest)) ≡ 2
 kinship-deeper l c d rest = kinship-more l c (d ∷ rest) ∙ rw eqb·suc-zero
 
--- kinship is the number of what holds
+-- where one of the six kinships holds, `kinship` gives its number
 pub kinship-of : {l m : Label} {k : ℕ} → Kin l m k → kinship l m ≡ k
 unfolding turned
 kinship-of {m} (same-label e) = rw e (kinship-self m)
@@ -154,14 +154,14 @@ within-kin l m h = let (rest, e) = within-iff l m .0 h in go rest e
     go (c ∷ []) e = inr (inl (parent c e))
     go (c ∷ d ∷ rest) e = inr (inr (ancestor c d rest e))
 
--- where the first label is within the second, kinship says what holds
+-- where the first label is within the second, the kinship whose number `kinship` gives holds
 within-says : (l m : Label) → T (within l m) → Kin l m (kinship l m)
 within-says l m h = ⊎-elim said (⊎-elim said said) (within-kin l m h)
   where
     said : {k : ℕ} → Kin l m k → Kin l m (kinship l m)
     said kin = rw (kinship-of kin) kin
 
--- kinship says what holds
+-- the kinship whose number `kinship` gives holds
 pub kinship-says : (l m : Label) → Kin l m (kinship l m)
 kinship-says l m = go (decide (within l m)) (decide (within m l))
   where
@@ -170,11 +170,11 @@ kinship-says l m = go (decide (within l m)) (decide (within m l))
     go (inr h) (inl k) = rw (kinship-turned m l) (turn (within-says m l k))
     go (inr h) (inr k) = rw (kinship-apart l m h k) (apart h k)
 
--- exactly one of the six holds, and kinship is its number
+-- exactly one of the six kinships holds, and `kinship` gives its number
 pub kin-iff : (l m : Label) (k : ℕ) → Kin l m k ↔ (kinship l m ≡ k)
 kin-iff l m k = (kinship-of, λ e. subst (Kin l m) e (kinship-says l m))
 
--- a label follows another exactly if it goes on from the other or is greater at the first component where they differ
+-- A label follows another exactly if it goes on from the other, or is greater at the first component where they differ.
 pub follows-iff : (l m : Label) → T (follows l m) ↔ Precedes m l
 unfolding follows
 follows-iff l m = precedes-iff m l

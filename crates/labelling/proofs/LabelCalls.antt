@@ -11,7 +11,7 @@ use lib.Dec.{T, le→leb}
 use Rattle.basics.specs.Basics.{elim?}
 use Rattle.basics.specs.Limits.{maxName, labelSize}
 use Rattle.basics.specs.Refusals.{check, first, notLabel, value, refused, reply, badRoot, refuse, emptyClue, Refusal}
-use Rattle.naming.specs.Names.{Clues, rootCheck, isName, tableCheck, cluesOf}
+use Rattle.naming.specs.Names.{Table, Clues, rootCheck, isName, tableCheck, cluesOf}
 use Rattle.labelling.specs.Labels.{kinship, follows, labelOf, isLabel, labelCheck, kinshipCall, followsCall, decodeCall, decodeRefusal, pathCheck, Label, Decoded, decode, path, labelWords, namesIn, stuck}
 use Rattle.basics.proofs.Refusals.{check-passed, check-iff}
 use Rattle.labelling.proofs.LabelWords.{GoodLabel, IsLabel, isLabel-iff, labelOf-labelWords, labelWords-good}
@@ -41,28 +41,28 @@ module _ {A : Type 0} (a b : List ℕ) (x : A) where
       go false q n = refl
 
 module _ (a b : List ℕ) where
-  -- kinship of two labels is answered
+  -- kinship of two labels in words is answered
   pub kinship-call : T (isLabel a) → T (isLabel b) → kinshipCall a b ≡ value (kinship (labelOf a) (labelOf b))
   unfolding kinshipCall
   kinship-call = labels-call a b (kinship (labelOf a) (labelOf b))
 
-  -- kinship of anything else is refused
+  -- kinship of words of which one or both are no label is refused by 15
   pub kinship-refused : ((T (isLabel a) × T (isLabel b)) → ⊥) → kinshipCall a b ≡ refused (record { number = notLabel; place = 0 })
   unfolding kinshipCall
   kinship-refused = labels-refused a b (kinship (labelOf a) (labelOf b))
 
-  -- whether a label follows another is answered
+  -- whether one of two labels in words follows the other is answered
   pub follows-call : T (isLabel a) → T (isLabel b) → followsCall a b ≡ value (follows (labelOf a) (labelOf b))
   unfolding followsCall
   follows-call = labels-call a b (follows (labelOf a) (labelOf b))
 
-  -- whether anything else does is refused
+  -- whether words follow others, of which one or both are no label, is refused by 15
   pub follows-refused : ((T (isLabel a) × T (isLabel b)) → ⊥) → followsCall a b ≡ refused (record { number = notLabel; place = 0 })
   unfolding followsCall
   follows-refused = labels-refused a b (follows (labelOf a) (labelOf b))
 
-module _ (rows : List (List ℕ)) (root : ℕ) (l : Label) (table : tableCheck rows ≡ none) (small : root ≤ maxName) (good : GoodLabel l) where
-  -- whether a good label is refused hangs on what it decodes to
+module _ (rows : Table) (root : ℕ) (l : Label) (table : tableCheck rows ≡ none) (small : root ≤ maxName) (good : GoodLabel l) where
+  -- whether decoding a good label is refused hangs on what the label decodes to
   decode-refusal : decodeRefusal rows root (labelWords l) ≡ pathCheck (decode (cluesOf rows) root l)
   unfolding decodeRefusal rootCheck isName labelCheck
   decode-refusal =
@@ -78,13 +78,13 @@ module _ (rows : List (List ℕ)) (root : ℕ) (l : Label) (table : tableCheck r
       only none = unfold first in refl
       only (some r) = unfold first in refl
 
-  -- a label that decodes to a path is answered with it
+  -- decoding a good label that has a path answers the path
   pub decode-call : (ns : List ℕ) → decode (cluesOf rows) root l ≡ path ns →
       decodeCall rows root (labelWords l) ≡ record { refusal = none; names = namesIn (path ns) }
   unfolding decodeCall pathCheck elim?
   decode-call ns e = rw (decode-refusal, labelOf-labelWords l, e)
 
-  -- a label that is stuck is refused, 16 at the component
+  -- decoding a label that is stuck is refused by 16 at the component
   pub decode-stuck : (i : ℕ) → decode (cluesOf rows) root l ≡ stuck i →
       decodeCall rows root (labelWords l) ≡ record { refusal = refuse emptyClue i; names = replicate labelSize 0 }
   unfolding decodeCall pathCheck elim?
@@ -106,7 +106,8 @@ module _ (cl : Clues) (root : ℕ) (l : Label) where
       go (stuck zero) s e = absurd (omega (arith, s .stops 0 refl .0))
       go (stuck (suc j)) s e = unfold pathCheck in (λ h. absurd (Option·some-ne-none _ h), λ h. absurd (h j (e j .0 refl)))
 
-  -- a label is refused for decoding exactly by 16, at the first component, counted from 1, that stands below a name with an empty clue
+  -- A label is refused for decoding by 16 and by no other number,
+  -- at the first component, counted from 1, that stands below a name with an empty clue.
   pub pathCheck-refused : (r : Refusal) →
       pathCheck (decode cl root l) ≡ some r ↔ ((r .number ≡ emptyClue) × (j : ℕ) × (r .place ≡ suc j) × BelowEmpty cl root l j)
   pathCheck-refused r = go (decode cl root l) (starts cl root l) (stuck-iff cl root l)

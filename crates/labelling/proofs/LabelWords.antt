@@ -14,7 +14,7 @@ use Rattle.labelling.specs.Labels.{Label, isComponent, labelOf, labelWor
 use Rattle.basics.proofs.Tests.{and-iff, eqb-alike, and-facts}
 use Rattle.basics.proofs.Lists.{all-at}
 
--- zeros, and nothing else, pass the test of being zeros
+-- a list passes the test of zeros exactly if it is zeros alone
 zeros-iff : (l : List ℕ) → T (all (λ x. eqb x 0) l) ↔ (l ≡ replicate (length l) 0)
 unfolding all
 zeros-iff l = (are l, λ e. subst (λ m. T (all (λ x. eqb x 0) m)) (sym e) (pass (length l)))
@@ -34,7 +34,7 @@ pub record IsLabel (ws : List ℕ) : Type 0 where
   pub used : (i : ℕ) → i < getD ws 0 0 → getD ws (suc i) 0 ≤ maxComponent
   pub unused : (i : ℕ) → getD ws 0 0 < i → i < labelSize → getD ws i 0 ≡ 0
 
--- what the test of a label tells
+-- the test of a label tells four facts of its words
 label-tests : (ws : List ℕ) → T (isLabel ws) ↔
     ((length ws ≡ labelSize) × (getD ws 0 0 ≤ maxDepth) × T (all isComponent (labelOf ws)) × T (all (λ x. eqb x 0) (drop (suc (getD ws 0 0)) ws)))
 unfolding isLabel
@@ -47,7 +47,7 @@ label-tests ws =
     (and-facts sizes shallow (eqb-alike (length ws) labelSize) (leb→le (getD ws 0 0) maxDepth, le→leb (getD ws 0 0) maxDepth)) Iff·rfl) Iff·rfl)
     (λ h. (h .0 .0 .0, h .0 .0 .1, h .0 .1, h .1), λ p. (((p .0, p .1), p .2), p .3))
 
--- words are a label exactly if the four facts hold
+-- words are a label exactly if the four facts of refusal 15 hold
 pub isLabel-iff : (ws : List ℕ) → T (isLabel ws) ↔ IsLabel ws
 unfolding labelOf isComponent
 isLabel-iff [] = (λ h. absurd (omega (arith, label-tests [] .0 h .0)), λ h. absurd (omega (arith, h .sixteen)))
@@ -84,18 +84,18 @@ pub record GoodLabel (l : Label) : Type 0 where
   pub shallow : length l ≤ maxDepth
   pub small : T (all isComponent l)
 
--- a label has sixteen words
+-- the words of a label of at most 15 components are sixteen
 pub length-labelWords : (l : Label) → length l ≤ maxDepth → length (labelWords l) ≡ labelSize
 unfolding labelWords
 length-labelWords l h = simp (length-append, length-replicate) (omega arith)
 
--- a label's words, with more behind them, hold the label
+-- the words of a label, with more words behind them, hold the label
 pub labelOf-words : (l : Label) (t : List ℕ) → labelOf (labelWords l ++ t) ≡ l
 unfolding labelWords labelOf
 labelOf-words l t =
     ap (take (length l)) (append-assoc l (replicate (maxDepth - length l) 0) t) ∙ take-at l (replicate (maxDepth - length l) 0 ++ t) (length l) refl
 
--- the words of a label hold it
+-- the words of a label hold that label
 pub labelOf-labelWords : (l : Label) → labelOf (labelWords l) ≡ l
 unfolding labelWords labelOf
 labelOf-labelWords l = take-at l (replicate (maxDepth - length l) 0) (length l) refl

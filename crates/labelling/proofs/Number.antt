@@ -12,7 +12,7 @@ use Rattle.labelling.specs.Numbers.{number, Least}
 use Rattle.basics.proofs.Tests.{passes, fails, le?}
 use Rattle.naming.proofs.NameTables.{placed-at}
 
--- it stands q rounds up, where q is the first round that does
+-- where q is the first round whose number leaving k is at least f, that number is the least
 pub least-at : (n k f q : ℕ) → k < n → f ≤ q * n + k → q * n + k < f + n → Least n k f (q * n + k)
 least-at n k f q small up down = record {
   high = up;
@@ -25,7 +25,7 @@ least-at n k f q small up down = record {
       omega arith;
 }
 
--- that is what `number` gives
+-- `number` gives the least number that is at least f and leaves k
 pub number-least : (n k f : ℕ) → k < n → Least n k f (number n k f)
 unfolding number
 number-least n k f small =
@@ -49,7 +49,7 @@ led-given c (x ∷ xs) k f e =
     let p = placed-at c (x ∷ xs) k e in
     rw (number-least (suc (length xs)) k f (p .0) .leaves) (ap some (p .1))
 
--- a next number of at most m rounds gives a number of that round at most
+-- where the next number is at most m rounds up, the number given is at most k above m rounds
 pub round-bound : (n k f m : ℕ) → k < n → f ≤ m * n → number n k f ≤ m * n + k
 round-bound n k f m small low =
     number-least n k f small .least (m * n + k) (omega arith) (mul-add-mod-self-right m n k ∙ mod-eq-of-lt small)

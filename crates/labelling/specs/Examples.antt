@@ -7,7 +7,7 @@ use Rattle.naming.specs.Names.{cluesOf}
 use Rattle.naming.specs.Examples.{tornTable, loopTable, shortTable}
 use Rattle.labelling.specs.Labels.{labelWords, nameAt, labelCheck, decodeCall}
 
--- what labels decode to
+-- examples of what labels decode to
 unfoldable pub labelChecks : List Check
 labelChecks =
     -- from a vehicle 2.4.0 decodes to vehicle, test, axle, curve, the other twelve places 0
@@ -20,7 +20,7 @@ labelChecks =
     ∷ is (decodeCall shortTable 64 (labelWords []) .names) (replicate 16 0)
     ∷ []
 
--- decoding 22, 21, 15, 16; kinship and follows 15
+-- the refusals of a label: by 22, 21, 15, 16 for decoding, by 15 for kinship and follows
 unfoldable pub labelRefusals : List Check
 labelRefusals =
     is (shown (decodeCall tornTable 64 [] .refusal)) (22 ∷ 0 ∷ [])

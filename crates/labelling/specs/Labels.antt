@@ -8,9 +8,9 @@ use lib.Dec.{ltb, leb, eqb}
 use Rattle.basics.specs.Basics.{elim?, all, last, lex}
 use Rattle.basics.specs.Limits.{maxComponent, maxDepth, labelSize}
 use Rattle.basics.specs.Refusals.{Refusal, refuse, check, first, notLabel, emptyClue, Reply, reply}
-use Rattle.naming.specs.Names.{Clues, cluesOf, led, tableCheck, rootCheck}
+use Rattle.naming.specs.Names.{Table, Clues, cluesOf, led, tableCheck, rootCheck}
 
--- a label: its components
+-- a label is the list of its components
 abbrev pub Label : Type 0
 Label = List ℕ
 
@@ -24,29 +24,31 @@ shared [] m = 0
 shared (x ∷ l) [] = 0
 shared (x ∷ l) (y ∷ m) = cond (eqb x y) (suc (shared l m)) 0
 
--- the first label is the second or an ancestor of it
+-- whether the first label is the second or an ancestor of the second
 unfoldable pub within : Label → Label → Bool
 within up low = eqb (shared up low) (length up)
 
--- two labels are the same
+-- whether two labels are the same
 unfoldable pub same : Label → Label → Bool
 same l m = within l m && within m l
 
--- the parent's label
+-- the label of the parent
 unfoldable pub above : Label → Label
 above l = take (length l - 1) l
 
--- kinship of a first label to a second: 0 same, 1 parent, 2 higher ancestor, 3 child, 4 deeper descendant, 5 none of these
+-- The kinship of a first label to a second:
+-- 0 same, 1 parent, 2 higher ancestor, 3 child, 4 deeper descendant, 5 none of these.
 unfoldable pub kinship : Label → Label → ℕ
 kinship l m =
     cond (within l m) (cond (within m l) 0 (cond (eqb (length m) (length l + 1)) 1 2))
     (cond (within m l) (cond (eqb (length l) (length m + 1)) 3 4) 5)
 
--- follows: the first label is greater in label order
+-- whether the first label follows the second: greater in label order
 unfoldable pub follows : Label → Label → Bool
 follows l m = before m l
 
--- what a label decodes to: the names from the root, or the component, from 1, that stands below a name with an empty clue
+-- What a label decodes to: the names from the root,
+-- or the component, counted from 1, that stands below a name with an empty clue.
 pub data Decoded : Type 0 where
   path : List ℕ → Decoded
   stuck : ℕ → Decoded
@@ -66,11 +68,11 @@ unfoldable pub endOf : Decoded → Option ℕ
 endOf (path ns) = some (last ns)
 endOf (stuck i) = none
 
--- the name that a label decodes to
+-- the name that a label decodes to, at the end of its path
 unfoldable pub nameAt : Clues → ℕ → Label → Option ℕ
 nameAt cl root l = endOf (decode cl root l)
 
--- a component is at most 65,534
+-- whether a number is a component: at most 65,534
 unfoldable pub isComponent : ℕ → Bool
 isComponent x = leb x maxComponent
 
@@ -78,25 +80,25 @@ isComponent x = leb x maxComponent
 unfoldable pub labelOf : List ℕ → Label
 labelOf ws = take (getD ws 0 0) (drop 1 ws)
 
--- the words of a label
+-- the sixteen words of a label: the depth, the components, zeros
 unfoldable pub labelWords : Label → List ℕ
 labelWords l = length l ∷ (l ++ replicate (maxDepth - length l) 0)
 
--- words are a label: sixteen, depth at most 15, used components at most 65,534, unused ones 0
+-- whether words are a label: sixteen, depth at most 15, used components at most 65,534, unused ones 0
 unfoldable pub isLabel : List ℕ → Bool
 isLabel ws =
     eqb (length ws) labelSize && leb (getD ws 0 0) maxDepth && all isComponent (labelOf ws) && all (λ x. eqb x 0) (drop (suc (getD ws 0 0)) ws)
 
--- the check of a label, 15
+-- the check of a label's words, which refuses by 15
 unfoldable pub labelCheck : List ℕ → Option Refusal
 labelCheck ws = check (isLabel ws) notLabel 0
 
--- the check of what a label decodes to, 16
+-- the check of what a label decodes to, which refuses by 16
 unfoldable pub pathCheck : Decoded → Option Refusal
 pathCheck (path ns) = none
 pathCheck (stuck i) = refuse emptyClue i
 
--- names in sixteen places, the rest 0; no names where there is no path
+-- the names of a path in sixteen places, the rest 0; sixteen zeros where there is no path
 unfoldable pub namesIn : Decoded → List ℕ
 namesIn (path ns) = ns ++ replicate (labelSize - length ns) 0
 namesIn (stuck i) = replicate labelSize 0
@@ -107,20 +109,20 @@ pub record Decoding : Type 0 where
   pub names : List ℕ
 
 -- decoding is refused by 22, 21, 15, 16, in this order
-unfoldable pub decodeRefusal : List (List ℕ) → ℕ → List ℕ → Option Refusal
+unfoldable pub decodeRefusal : Table → ℕ → List ℕ → Option Refusal
 decodeRefusal rows root ws =
     first (tableCheck rows ∷ rootCheck root ∷ labelCheck ws ∷ pathCheck (decode (cluesOf rows) root (labelOf ws)) ∷ [])
 
--- decoding: a refusal gives no names, all zeros
-unfoldable pub decodeCall : List (List ℕ) → ℕ → List ℕ → Decoding
+-- decoding a label as a call: a refusal gives no names, all zeros
+unfoldable pub decodeCall : Table → ℕ → List ℕ → Decoding
 decodeCall rows root ws =
     elim? (decodeRefusal rows root ws) (record { refusal = none; names = namesIn (decode (cluesOf rows) root (labelOf ws)) })
     (λ r. record { refusal = some r; names = replicate labelSize 0 })
 
--- kinship of two labels in words: 15, first label, then second
+-- the kinship of two labels in words: 15 is asked of the first label, then of the second
 unfoldable pub kinshipCall : List ℕ → List ℕ → Reply ℕ
 kinshipCall a b = reply (first (labelCheck a ∷ labelCheck b ∷ [])) (kinship (labelOf a) (labelOf b))
 
--- whether the first of two labels in words follows the second: 15, first label, then second
+-- whether the first of two labels in words follows the second: 15 is asked of the first label, then of the second
 unfoldable pub followsCall : List ℕ → List ℕ → Reply Bool
 followsCall a b = reply (first (labelCheck a ∷ labelCheck b ∷ [])) (follows (labelOf a) (labelOf b))

@@ -1,5 +1,5 @@
 -- Numbers and labels.
 pub mod Numbers
 pub mod Labels
--- Examples.
+-- Examples that the checker works through.
 pub mod Examples

@@ -1,4 +1,5 @@
--- Giving a number to a child: k is the place of its name in the parent's clue, n the clue's length, f the parent's next number.
+-- Giving a number to a child: k is the place of its name in the parent's clue,
+-- n the clue's length, f the parent's next number.
 use mathlib.Core.Path.{_≡_}
 use mathlib.Core.Bool.{cond}
 use mathlib.Core.Option.{Option, none, some}
@@ -9,7 +10,7 @@ use lib.Dec.{ltb, leb}
 unfoldable pub number : ℕ → ℕ → ℕ → ℕ
 number n k f = cond (leb (f % n) k) (f - f % n + k) (f - f % n + n + k)
 
--- what it is to be that number
+-- what it is to be the least number that is at least f and leaves k when divided by n
 pub record Least (n k f x : ℕ) : Type 0 where
   pub high : f ≤ x
   pub leaves : x % n ≡ k

@@ -30,31 +30,31 @@ pub small-word : (x : ℕ) → x ≤ maxComponent → isComponent x ≡ true
 unfolding isComponent
 small-word x h = le-leb x maxComponent h
 
--- the tests of words for a label, in turn
+-- the tests of words for a label, one after the other
 module _ (ws : List ℕ) where
-  -- words that are not sixteen
+  -- words that are not sixteen are no label
   pub label-size : (length ws ≡ labelSize → ⊥) → false ≡ isLabel ws
   unfolding isLabel
   label-size h = rw (ne-eqb _ _ h)
 
   module _ (h : length ws ≡ labelSize) where
-    -- a depth over 15
+    -- words with a depth over 15 are no label
     pub label-deep : maxDepth < getD ws 0 0 → false ≡ isLabel ws
     unfolding isLabel
     label-deep k = rw (eq-eqb _ _ h, lt-leb _ _ k)
 
     module _ (k : getD ws 0 0 ≤ maxDepth) {l : Label} (p : l ≡ take (getD ws 0 0) (drop 1 ws)) {b : Bool} (q : b ≡ all isComponent l) where
-      -- a used component 65,535
+      -- words with a used component over 65,534 are no label
       pub label-large : not b ≡ true → false ≡ isLabel ws
       unfolding isLabel labelOf
       label-large e = rw (eq-eqb _ _ h, le-leb _ _ k, ← p, ← q, not-true b e)
 
-      -- unused components decide
+      -- where the tests before pass, the unused components decide
       pub label-unused : not b ≡ false → {z : Bool} → z ≡ all isZero (take (length ws - (getD ws 0 0 + 1)) (drop (getD ws 0 0 + 1) ws)) → z ≡ isLabel ws
       unfolding isLabel labelOf
       label-unused e u = rw (eq-eqb _ _ h, le-leb _ _ k, ← p, ← q, not-false b e) (u ∙ rw (tail-is, add-one))
 
--- the words after the first are lent as a part
+-- the part from word 1 to word d + 1 is the d words after the first
 pub after-is : (l : List ℕ) (d : ℕ) → take (d + 1 - 1) (drop 1 l) ≡ take d (drop 1 l)
 after-is l d = rw (add-sub-cancel d 1)
 
@@ -68,12 +68,12 @@ module _ (ws : List ℕ) (good : isLabel ws ≡ true) where
   pub label-word : (i : ℕ) → i < labelSize → i < length ws
   label-word i h = omega (arith, label-facts .sixteen)
 
-  -- a label has as many words after the first as that says
+  -- a label has as many words after the first as its depth says
   pub label-within : getD ws 0 0 < length ws
   label-within = omega (arith, label-facts .sixteen, label-facts .depth)
 
   module _ {l : Label} (e : l ≡ take (getD ws 0 0) (drop 1 ws)) where
-    -- as many words after the first as that says are the components
+    -- as many words after the first as the depth says are the components
     pub label-components : l ≡ labelOf ws
     unfolding labelOf
     label-components = e

@@ -1,4 +1,4 @@
-// Labels alone: sixteen words, the depth, then the components, unused ones 0.
+// Labels: sixteen words, the depth first, then the components, unused ones 0.
 use zeros::all_zero;
 ghost use mathlib.Core.Path.{_≡_};
 ghost use mathlib.Core.Bool.{true};
@@ -6,15 +6,15 @@ ghost use Prim.Native.Nat.{_≤_, _<_};
 ghost use mathlib.Core.List.{[]};
 ghost use lib.ListN.{length, take, drop};
 ghost use Rattle.basics.specs.Basics.{all};
-ghost use Rattle.labelling.specs.Labels as model;
+ghost use Rattle.labelling.specs.Labels as spec;
 
-// A label outside the store.
+// A label that stands outside a store.
 pub struct Label {
     pub words: [u16; 16],
 }
 
 impl Label {
-    // The words of a label.
+    // How many words a label has.
     pub const WORDS: usize = 16;
     // The deepest level.
     pub const MAX_DEPTH: usize = 15;
@@ -23,15 +23,15 @@ impl Label {
 
     // The root's label.
     pub fn empty() -> Label
-        ensures { λ r. ⌜ r .words ≡ model.labelWords [] ⌝ }
+        ensures { λ r. ⌜ r .words ≡ spec.labelWords [] ⌝ }
     {
         Label { words: [0u16; 16] }
     }
 }
 
-// Every word is a component.
+// Whether every word is a component.
 fn all_components(s: &[u16]) -> bool
-    ensures { λ r. ⌜ r ≡ all model.isComponent (now (s .entry)) ⌝ }
+    ensures { λ r. ⌜ r ≡ all spec.isComponent (now (s .entry)) ⌝ }
 {
     let mut i: usize = 0;
     while i < s.len() {
@@ -51,9 +51,9 @@ fn after_first(words: &[u16], d: usize) -> &[u16]
     &words[1..d + 1]
 }
 
-// Words are a label.
+// Whether words are a label.
 pub fn is_label(words: &[u16]) -> bool
-    ensures { λ r. ⌜ r ≡ model.isLabel (now (words .entry)) ⌝ }
+    ensures { λ r. ⌜ r ≡ spec.isLabel (now (words .entry)) ⌝ }
 {
     if words.len() != Label::WORDS {
         return false;
@@ -70,8 +70,8 @@ pub fn is_label(words: &[u16]) -> bool
 
 // The components of a label.
 pub fn components(words: &[u16]) -> &[u16]
-    requires { ⌜ model.isLabel (now words) ≡ true ⌝ }
-    ensures { λ r. ⌜ (now r ≡ model.labelOf (now (words .entry))) × (length (now r) ≤ 15) ⌝ }
+    requires { ⌜ spec.isLabel (now words) ≡ true ⌝ }
+    ensures { λ r. ⌜ (now r ≡ spec.labelOf (now (words .entry))) × (length (now r) ≤ 15) ⌝ }
 {
     after_first(words, words[0] as usize)
 }

@@ -1,4 +1,5 @@
--- Where a label stands among elements in label order: how many pass it, and what finding, placing and deleting do there.
+-- Where a label stands among elements in label order: how many pass it, and what finding, placing and deleting do
+-- there.
 use Prim.Native.Nat.{ℕ, zero, suc, _+_, _*_, _<_, _≤_}
 use mathlib.Core.Path.{_≡_, refl, sym, ap, subst, _∙_}
 use mathlib.Core.Logic.{_⊎_, inl, inr, ⊎-elim, ⊎-map, by-cases}
@@ -9,22 +10,23 @@ use native.Mathlib.Omega.{arith}
 use native.Mathlib.Decide.{decLt}
 use lib.ListN.{length, getD, take, drop, length-take, length-drop}
 use lib.Dec.{T}
-use Rattle.basics.specs.Basics.{_∈_, elim?, keep, Ascending, none-left, one-more}
+use Rattle.basics.specs.Basics.{_∈_, elim?, keep, leading, Ascending, none-left, one-more}
 use Rattle.basics.specs.Limits.{maxDepth, recordSize}
 use Rattle.naming.specs.Names.{Clues}
 use Rattle.labelling.specs.Labels.{Label, before, within, same, labelOf}
-use Rattle.storage.specs.Store.{Element, readElement, records, elements, find, soundCheck}
+use Rattle.storage.specs.Store.{Element, ahead, readElement, records, elements, find, soundCheck}
 use Rattle.store_calls.specs.Updates.{placed, without}
 use Rattle.basics.proofs.Tests.{or-iff, and-iff, decide, is-true, is-false, Tells, passes as told, fails as untold}
 use Rattle.basics.proofs.Lists.{here, member-at}
+use Rattle.basics.proofs.Leading.{leading-zero, leading-under, leading-stops, leading-reaches}
 use Rattle.labelling.proofs.LabelOrder.{before-order, before-one-way, before-extend, extend-before, within-iff, within-self, same?}
 use Rattle.storage.proofs.Sizes.{length-elements-read}
 use Rattle.storage.proofs.Faults.{sound-check}
-use Rattle.storage.proofs.SoundStore.{ahead, sound-elements}
+use Rattle.storage.proofs.SoundStore.{sound-elements}
 use Rattle.records.specs.Records.{recordAt}
 use Rattle.records.proofs.Parts.{record-depth}
 use Rattle.records.proofs.Elements.{element-at}
-use Rattle.lookup.specs.Places.{placeAt, passes, leading, Searchable}
+use Rattle.lookup.specs.Places.{placeAt, passes, InLabelOrder}
 
 -- what comes before a label of a subtree comes before the subtree or is in it
 before-subtree : (l m n : Label) → T (before m n) → T (within l n) → T (before m l) ⊎ T (within l m)
@@ -49,7 +51,7 @@ passes-never : (l : Label) (e : Element) → e .label ≡ l → T (passes false 
 unfolding passes
 passes-never l e h p = ⊎-elim (λ k. before-order .never l (subst (λ m. T (before m l)) h k)) (λ k. k) (or-iff (before (e .label) l) false .0 p)
 
--- but it is in its own subtree
+-- the element with a label is in that label's subtree
 passes-own : (l : Label) (e : Element) → e .label ≡ l → T (passes true l e)
 unfolding passes
 passes-own l e h = or-iff (before (e .label) l) _ .1 (inr (rw h (within-self l)))
@@ -62,63 +64,6 @@ passes-first s l e h = or-iff (before (e .label) l) _ .1 (inl h)
 -- an element that nothing asks for
 pub empty : Element
 empty = record { label = []; name = 0; next = 0; payload0 = 0; payload1 = 0 }
-
-module _ {A : Type 0} (f : A → Bool) where
-  -- no more pass than there are
-  pub leading-most : (es : List A) → leading f es ≤ length es
-  unfolding leading
-  leading-most [] = omega arith
-  leading-most (a ∷ es) = go (f a) (leading-most es)
-    where
-      go : (c : Bool) → leading f es ≤ length es → cond c (suc (leading f es)) 0 ≤ suc (length es)
-      go true h = omega arith
-      go false h = omega arith
-
-  -- a first member that passes counts
-  leading-suc : (a : A) (es : List A) → T (f a) → leading f (a ∷ es) ≡ suc (leading f es)
-  unfolding leading
-  leading-suc a es h = rw (is-true (f a) h)
-
-  -- behind one that does not, none counts
-  leading-zero : (a : A) (es : List A) → (T (f a) → ⊥) → leading f (a ∷ es) ≡ 0
-  unfolding leading
-  leading-zero a es h = rw (is-false (f a) h)
-
-  module _ (d : A) where
-    -- each of those counted passes
-    pub leading-passes : (es : List A) (i : ℕ) → i < leading f es → T (f (getD es i d))
-    unfolding leading
-    leading-passes [] i h = absurd (omega arith)
-    leading-passes (a ∷ es) i h = go (f a) refl i h (leading-passes es)
-      where
-        go : (c : Bool) → f a ≡ c → (i : ℕ) → i < cond c (suc (leading f es)) 0 → ((i : ℕ) → i < leading f es → T (f (getD es i d))) → T (f (getD (a ∷ es) i d))
-        go true e zero h below = rw e tt
-        go true e (suc i) h below = below i (omega arith)
-        go false e i h below = absurd (omega arith)
-
-    -- from one that does not pass on, none is counted
-    pub leading-under : (es : List A) (i : ℕ) → (T (f (getD es i d)) → ⊥) → leading f es ≤ i
-    leading-under es i n = by-cases (decLt i (leading f es)) (λ h. absurd (n (leading-passes es i h))) (λ h. omega arith)
-
-    -- the next one does not pass
-    pub leading-stops : (es : List A) → leading f es < length es → T (f (getD es (leading f es) d)) → ⊥
-    unfolding leading
-    leading-stops [] h = absurd (omega arith)
-    leading-stops (a ∷ es) h = go (f a) refl h (leading-stops es)
-      where
-        go : (c : Bool) → f a ≡ c → cond c (suc (leading f es)) 0 < suc (length es) → (leading f es < length es → T (f (getD es (leading f es) d)) → ⊥) →
-            T (f (getD (a ∷ es) (cond c (suc (leading f es)) 0) d)) → ⊥
-        go true e h below t = below (omega arith) t
-        go false e h below t = subst T e t
-
-    -- where all that come before a member pass, it is reached
-    pub leading-reaches : {less : A → A → Bool} {es : List A} → Ascending less es → (i : ℕ) → i < length es →
-        ((a : A) → T (less a (getD es i d)) → T (f a)) → i ≤ leading f es
-    leading-reaches none-left i h k = absurd (omega arith)
-    leading-reaches (one-more {a} {more} u r) zero h k = omega arith
-    leading-reaches (one-more {a} {more} u r) (suc i) h k =
-        let t = k a (u (getD more i d) (member-at d more (getD more i d) .1 (i, omega arith, refl))) in
-        omega (arith, leading-suc a more t, leading-reaches r i (omega arith) k)
 
 -- one in label order that passes a label is counted
 pub leading-over : (s : Bool) (l : Label) (es : List Element) (i : ℕ) (d : Element) → Ascending ahead es → i < length es → T (passes s l (getD es i d)) →
@@ -170,7 +115,7 @@ place-leading l es a o q =
     leading-reaches (passes false l) empty o a h (λ e b. passes-first false l e (subst (λ m. T (before (e .label) m)) k b)) in
     omega arith
 
--- and before the end of its subtree
+-- a label's place is before the end of its subtree
 pub place-before-end : (l : Label) (es : List Element) (a : ℕ) → Ascending ahead es → placeAt l es ≡ some a → a < leading (passes true l) es
 place-before-end l es a o q =
     let (h, k) = place-inside l es a empty q in
@@ -249,7 +194,7 @@ shallow-record ws r room h =
     omega (arith, record-depth ws r, length-take (getD words 0 0) (drop 1 words), length-drop 1 words, length-take recordSize rest, length-drop (r * recordSize) ws)
 
 -- a store without a fault can be searched
-pub searchable : (cl : Clues) (count : ℕ) (ws : List ℕ) → recordSize * count ≤ length ws → soundCheck cl count ws ≡ none → Searchable count ws
+pub searchable : (cl : Clues) (count : ℕ) (ws : List ℕ) → recordSize * count ≤ length ws → soundCheck cl count ws ≡ none → InLabelOrder count ws
 unfolding elements records
 searchable cl zero ws room sound = record { room = omega arith; ordered = none-left; shallow = λ r h. absurd (omega arith) }
 searchable cl (suc n) ws room sound =

@@ -8,6 +8,8 @@ use native.Mathlib.Omega.{arith}
 use lib.ListN.{length, getD}
 use lib.Dec.{T, eqb}
 use borrow.Author.Tests.{not-true, not-false}
+use Rattle.basics.proofs.Leading.{leading-most, leading-under}
+use Rattle.basics.specs.Basics.{leading}
 use Rattle.basics.specs.Limits.{maxDepth, recordSize}
 use Rattle.labelling.specs.Labels.{Label, before, shared, within, same, labelOf}
 use Rattle.storage.specs.Store.{Element, readElement, elements}
@@ -17,24 +19,24 @@ use Rattle.labelling.proofs.Kinship.{shared-self, shared-comm}
 use Rattle.storage.proofs.Sizes.{length-elements-read}
 use Rattle.records.specs.Records.{recordAt}
 use Rattle.records.proofs.Elements.{element-at}
-use Rattle.lookup.specs.Places.{placeAt, foundOf, passes, leading, Searchable}
+use Rattle.lookup.specs.Places.{placeAt, foundOf, passes, InLabelOrder}
 use Rattle.lookup.specs.declared.Found.the-variants as found
-use Rattle.lookup.proofs.Places.{empty, leading-most, leading-under, leading-over, place-leading, place-inside, place-none, place-found}
+use Rattle.lookup.proofs.Places.{empty, leading-over, place-leading, place-inside, place-none, place-found}
 
--- record r with the label m, and b tells whether that comes before a label
+-- record r has the label m, and b tells whether m comes before a label
 module _ (ws : List ℕ) (r : ℕ) (l : Label) {m : Label} (e : m ≡ labelOf (recordAt r ws)) {b : Bool} (is : b ≡ before m l) where
-  -- it does
+  -- a record before a label passes it
   pub passes-before : (subtree : Bool) → b ≡ true → true ≡ passes subtree l (readElement (recordAt r ws))
   unfolding passes readElement
   passes-before subtree h = rw (← e, ← is, h)
 
   module _ (h : b ≡ false) where
-    -- it does not, and nothing else is asked for
+    -- a record that is not before a label does not pass it where its subtree is not asked for
     pub passes-not : (subtree : Bool) → not subtree ≡ true → false ≡ passes subtree l (readElement (recordAt r ws))
     unfolding passes readElement
     passes-not subtree n = rw (← e, ← is, h, not-true subtree n)
 
-    -- else its subtree decides
+    -- where the label's subtree is asked for, a record that is not before the label passes if it is in that
     pub passes-inside : (subtree : Bool) → not subtree ≡ false → {s : ℕ} → s ≡ shared l m → eqb s (length l) ≡ passes subtree l (readElement (recordAt r ws))
     unfolding passes readElement within
     passes-inside subtree n f = rw (← e, ← is, h, not-false subtree n, f)
@@ -43,17 +45,13 @@ module _ (ws : List ℕ) (r : ℕ) (l : Label) {m : Label} (e : m ≡ labelOf (r
 pub rank-most : (f : Element → Bool) (count : ℕ) (ws : List ℕ) → leading f (elements count ws) ≤ count
 rank-most f count ws = omega (arith, leading-most f (elements count ws), length-elements-read count ws)
 
--- the middle of a part of the records in use is in use
-pub middle-in : {low high count : ℕ} → low < high → high ≤ count → low + (high - low) / 2 < count
-middle-in h k = omega arith
-
 -- a record in use
-module _ (count : ℕ) (ws : List ℕ) (s : Searchable count ws) {r : ℕ} (h : r < count) where
-  -- it is in the slice
+module _ (count : ℕ) (ws : List ℕ) (s : InLabelOrder count ws) {r : ℕ} (h : r < count) where
+  -- a record in use is in the slice
   pub in-room : r * recordSize + recordSize ≤ length ws
   in-room = omega (arith, s .room)
 
-  -- its depth is at most 15
+  -- the depth of a record in use is at most 15
   pub in-shallow : getD ws (r * recordSize) 0 ≤ maxDepth
   in-shallow = s .shallow r h
 
@@ -62,12 +60,12 @@ module _ (count : ℕ) (ws : List ℕ) (s : Searchable count ws) {r : ℕ} (h : 
     passes-at : p ≡ passes subtree l (getD (elements count ws) r empty)
     passes-at = is ∙ ap (passes subtree l) (sym (element-at count ws r empty h))
 
-    -- one that passes is counted
+    -- a record that passes is counted
     pub rank-over : p ≡ true → r + 1 ≤ leading (passes subtree l) (elements count ws)
     rank-over e =
         omega (arith, leading-over subtree l (elements count ws) r empty (s .ordered) (omega (arith, length-elements-read count ws)) (subst T (sym e ∙ passes-at) tt))
 
-    -- from one that does not on, none is
+    -- no record is counted from one on that does not pass
     pub rank-under : p ≡ false → leading (passes subtree l) (elements count ws) ≤ r
     rank-under e = leading-under (passes subtree l) empty (elements count ws) r (λ t. subst T (sym passes-at ∙ e) t)
 
@@ -77,7 +75,7 @@ unfolding same within
 shared-all m l h k = same-alike m l .0 (and-iff (within m l) (within l m) .1 (eqb-alike _ _ .1 h, eqb-alike _ _ .1 (shared-comm l m ∙ k)))
 
 -- record r is the first that does not come before a label
-module _ (count : ℕ) (ws : List ℕ) (s : Searchable count ws) (l : Label) {r : ℕ} (is : r ≡ leading (passes false l) (elements count ws)) where
+module _ (count : ℕ) (ws : List ℕ) (s : InLabelOrder count ws) (l : Label) {r : ℕ} (is : r ≡ leading (passes false l) (elements count ws)) where
   -- the label stands there or nowhere
   absent : ((a : ℕ) → r ≡ a → placeAt l (elements count ws) ≡ some a → ⊥) → found.Absent ≡ foundOf (placeAt l (elements count ws))
   absent n = rw (place-none l (elements count ws) (λ a q. n a (is ∙ sym (place-leading l (elements count ws) a (s .ordered) q)) q))

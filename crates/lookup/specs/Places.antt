@@ -7,8 +7,7 @@ use lib.ListN.{length, getD}
 use Rattle.basics.specs.Basics.{Ascending}
 use Rattle.basics.specs.Limits.{maxDepth, recordSize}
 use Rattle.labelling.specs.Labels.{Label, before, within, same}
-use Rattle.storage.specs.Store.{Element, elements}
-use Rattle.storage.proofs.SoundStore.{ahead}
+use Rattle.storage.specs.Store.{Element, ahead, elements}
 use Rattle.lookup.specs.declared.Found.{Found}
 use Rattle.lookup.specs.declared.Found.the-variants as found
 
@@ -26,13 +25,8 @@ foundOf (some r) = found.At r
 unfoldable pub passes : Bool → Label → Element → Bool
 passes subtree l e = before (e .label) l || (subtree && within l (e .label))
 
--- how many members at the front pass a test
-unfoldable pub leading : {A : Type 0} → (A → Bool) → List A → ℕ
-leading f [] = 0
-leading f (a ∷ more) = cond (f a) (suc (leading f more)) 0
-
 -- records in label order that a search can read
-pub record Searchable (count : ℕ) (ws : List ℕ) : Type 0 where
+pub record InLabelOrder (count : ℕ) (ws : List ℕ) : Type 0 where
   pub room : count * recordSize ≤ length ws
   pub ordered : Ascending ahead (elements count ws)
   pub shallow : (r : ℕ) → r < count → getD ws (r * recordSize) 0 ≤ maxDepth

@@ -6,9 +6,10 @@ ghost use mathlib.Core.Path.{_≡_};
 ghost use mathlib.Core.Bool.{true};
 ghost use Prim.Native.Nat.{_+_, _*_, _≤_};
 ghost use lib.ListN.{length, getD};
+ghost use Rattle.basics.specs.Basics.{leading};
 ghost use Rattle.storage.specs.Store.{readElement, elements};
 ghost use Rattle.records.specs.Records.{recordAt};
-ghost use Rattle.lookup.specs.Places.{placeAt, foundOf, passes, leading, Searchable};
+ghost use Rattle.lookup.specs.Places.{placeAt, foundOf, passes, InLabelOrder};
 
 // Where a label stands: at a record, or nowhere.
 pub enum Found {
@@ -33,7 +34,7 @@ fn record_passes(store: &[u16], r: usize, label: &[u16], subtree: bool) -> bool
 
 // How many records pass: a binary search.
 fn rank(store: &[u16], count: usize, label: &[u16], subtree: bool) -> usize
-    requires { ⌜ Searchable count (now store) ⌝ }
+    requires { ⌜ InLabelOrder count (now store) ⌝ }
     ensures { λ r. ⌜ r ≡ leading (passes subtree (now (label .entry))) (elements count (now (store .entry))) ⌝ }
 {
     let mut low: usize = 0;
@@ -51,7 +52,7 @@ fn rank(store: &[u16], count: usize, label: &[u16], subtree: bool) -> usize
 
 // The record with a label.
 pub fn lookup(store: &[u16], count: usize, label: &[u16]) -> Found
-    requires { ⌜ Searchable count (now store) ⌝ }
+    requires { ⌜ InLabelOrder count (now store) ⌝ }
     ensures { λ r. ⌜ r ≡ foundOf (placeAt (now (label .entry)) (elements count (now (store .entry)))) ⌝ }
 {
     let r = rank(store, count, label, false);
@@ -71,7 +72,7 @@ pub fn lookup(store: &[u16], count: usize, label: &[u16]) -> Found
 
 // The record behind the last one of a label's subtree.
 pub fn subtree_end(store: &[u16], count: usize, label: &[u16]) -> usize
-    requires { ⌜ Searchable count (now store) ⌝ }
+    requires { ⌜ InLabelOrder count (now store) ⌝ }
     ensures { λ r. ⌜ r ≡ leading (passes true (now (label .entry))) (elements count (now (store .entry))) ⌝ }
 {
     rank(store, count, label, true)

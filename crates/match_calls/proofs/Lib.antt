@@ -1,8 +1,8 @@
--- Streams in a buffer.
+-- Laws of streams in a buffer.
 pub mod Buffers
 pub mod StreamChecks
 pub mod StreamFacts
--- Examples.
+-- Examples that the checker works through.
 pub mod Computing
 pub mod Examples
 pub mod RefusalChecks

@@ -1,4 +1,4 @@
--- Examples of matching: what it answers, and every word that it leaves.
+-- Examples of what matching answers, and of every word that it leaves.
 use mathlib.Core.List.{List, [], _∷_, _++_}
 use Prim.Native.Nat.{ℕ}
 use lib.ListN.{replicate}
@@ -15,14 +15,15 @@ use Rattle.match_calls.specs.Matching.{matchCall}
 unfoldable pub listedFor : List ℕ → List ℕ → List Label → List ℕ → List ℕ
 listedFor twig counts ls out = let a : Listing = matchCall shortTable 0 twig counts (inWords ls) out in shown (a .refusal) ++ (a .count ∷ a .output)
 
-unfoldable pub matchChecks : List Check
-matchChecks =
-    -- four matches, in order, and the words past them as they were
+-- examples of matching
+unfoldable pub matchCallChecks : List Check
+matchCallChecks =
+    -- the printed example has four matches, in label order, and the words past them stay as they were
     is (listedFor garageTwig (3 ∷ 2 ∷ []) (axles ++ curves) (replicate 200 7)) (4 ∷ (inWords (joined garageMatches) ++ replicate 8 7))
     -- a label that stands twice in the second stream: 20 at 4, and nothing is written
     ∷ is (listedFor garageTwig (3 ∷ 2 ∷ []) (axles ++ ((1 ∷ 0 ∷ 2 ∷ []) ∷ (1 ∷ 0 ∷ 2 ∷ []) ∷ [])) (7 ∷ [])) (20 ∷ 4 ∷ 0 ∷ 7 ∷ [])
-    -- 255 asks for any name, and record 0's edge 1 lets it be any element
+    -- 255 asks for any name, and node 0's edge 1 lets it be any element
     ∷ is (listedFor (255 ∷ 1 ∷ 255 ∷ 0 ∷ []) (2 ∷ []) ([] ∷ (1 ∷ []) ∷ []) (replicate 32 7)) (2 ∷ inWords ([] ∷ (1 ∷ []) ∷ []))
-    -- its edge 0 ties it to the root element
+    -- edge 0 of node 0 ties the node to the root element
     ∷ is (listedFor (255 ∷ 0 ∷ 255 ∷ 0 ∷ []) (2 ∷ []) ([] ∷ (1 ∷ []) ∷ []) (replicate 16 7)) (1 ∷ inWords ([] ∷ []))
     ∷ []

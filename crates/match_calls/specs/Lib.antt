@@ -1,5 +1,5 @@
 -- The call that matches streams.
 pub mod Matching
--- Examples.
+-- Examples that the checker works through.
 pub mod Examples
 pub mod RefusalChecks

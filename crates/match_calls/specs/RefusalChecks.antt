@@ -13,7 +13,8 @@ use Rattle.match_calls.specs.Matching.{matchCall}
 unfoldable pub oneTwig : List ℕ
 oneTwig = noParent ∷ descendantEdge ∷ 1 ∷ 0 ∷ []
 
--- matching 22, 21, 4 to 8, 20, 17: 20 is for the counts, the buffer's length, and only then the first label that 15, 16, name or order rules out
+-- The refusals of matching, by 22, 21, 4 to 8, 20, 17: 20 is for the counts, the buffer's length,
+-- and only then the first label that 15, 16, name or order rules out.
 unfoldable pub matchRefusals : List Check
 matchRefusals =
     is (shown (matchCall tornTable 64 [] [] [] [] .refusal)) (22 ∷ 0 ∷ [])

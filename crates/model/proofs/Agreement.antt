@@ -1,4 +1,5 @@
--- Over every run the numbers given are the article's, but for the corner; where nothing was deleted the labels given out are those of the lines.
+-- Over every run the numbers given are the article's, but for the corner;
+-- where nothing was deleted the labels given out are those of the lines.
 use mathlib.Core.Path.{_≡_, refl, ap, subst, _∙_, sym}
 use mathlib.Core.List.{List}
 use mathlib.Core.Option.{Option, none, some}
@@ -7,11 +8,11 @@ use lib.ListN.{length, take}
 use Rattle.basics.specs.Basics.{elim?, last}
 use Rattle.basics.specs.Limits.{recordSize}
 use Rattle.basics.specs.Refusals.{Refusal}
-use Rattle.naming.specs.Names.{cluesOf}
+use Rattle.naming.specs.Names.{Table, cluesOf}
 use Rattle.labelling.specs.Numbers.{number, articleNumber}
 use Rattle.labelling.specs.Labels.{Label}
 use Rattle.store_calls.specs.Updates.{given}
-use Rattle.book.specs.Book.{lineElement, opened, called, Book, bookWords, deletion, Call, answer, bookAfter, givenOut, entry, lastBelow}
+use Rattle.book.specs.Book.{lineElement, opened, called, Book, NewElement, bookWords, deletion, Call, answer, bookAfter, givenOut, entry, lastBelow}
 use Rattle.model.specs.Claims.{NothingDeleted, ArticleNumbers}
 use Rattle.naming.proofs.NameTables.{placed-at}
 use Rattle.labelling.proofs.Article.{article-first, article-agrees}
@@ -21,7 +22,7 @@ use Rattle.book.proofs.Calls.{Ready}
 use Rattle.book.proofs.Answers.{entry-answer, entry-book, refused-holds}
 use Rattle.book.proofs.Run.{left, given-refused}
 
--- the number given below a line is the article's after the number given last
+-- the number given below a line is the article's after the number given out last below it
 pub article-numbers : ArticleNumbers
 unfolding given lineElement elim?
 article-numbers rows table root w n b g run l x found name k place off =
@@ -36,23 +37,23 @@ article-numbers rows table root w n b g run l x found name k place off =
     go size small none off = article-first size k small
     go size small (some y) off = article-agrees size k y small (off y refl)
 
--- a call that deletes nothing gives out the label of the line that it adds, and no other
-labels-after : {rows : List (List ℕ)} {root : ℕ} {b : Book} {g : List Label} {slice : List ℕ} → Ready rows root b g slice → labels b ≡ g →
+-- after a call that deletes nothing the labels given out are those of the lines, where they were before
+labels-after : {rows : Table} {root : ℕ} {b : Book} {g : List Label} {slice : List ℕ} → Ready rows root b g slice → labels b ≡ g →
     (c : Call) → ((lw : List ℕ) → c ≡ deletion lw → answer rows slice (length b) c .refusal ≡ none → ⊥) →
     labels (bookAfter (cluesOf rows) b (length slice) c) ≡ givenOut (answer rows slice (length b) c) c g
 labels-after {rows} {root} {b} {g} {slice} ready same c kept = go (answer rows slice (length b) c .refusal) refl
   where
-    entered : (lw : List ℕ) (name p0 p1 : ℕ) → answer rows slice (length b) (entry lw name p0 p1) .refusal ≡ none →
-        labels (bookAfter (cluesOf rows) b (length slice) (entry lw name p0 p1)) ≡
-        givenOut (answer rows slice (length b) (entry lw name p0 p1)) (entry lw name p0 p1) g
-    entered lw name p0 p1 e =
+    entered : (new : NewElement) → answer rows slice (length b) (entry new) .refusal ≡ none →
+        labels (bookAfter (cluesOf rows) b (length slice) (entry new)) ≡
+        givenOut (answer rows slice (length b) (entry new)) (entry new) g
+    entered new e =
         unfold givenOut elim? in
-        rw (entry-answer ready lw name p0 p1 e, entry-book ready lw name p0 p1 e, labelOf-labelWords, labels-moved, same)
+        rw (entry-answer ready new e, entry-book ready new e, labelOf-labelWords, labels-moved, same)
 
     accepted : (c : Call) → ((lw : List ℕ) → c ≡ deletion lw → answer rows slice (length b) c .refusal ≡ none → ⊥) →
         answer rows slice (length b) c .refusal ≡ none →
         labels (bookAfter (cluesOf rows) b (length slice) c) ≡ givenOut (answer rows slice (length b) c) c g
-    accepted (entry lw name p0 p1) kept e = entered lw name p0 p1 e
+    accepted (entry new) kept e = entered new e
     accepted (deletion lw) kept e = absurd (kept lw refl e)
 
     go : (o : Option Refusal) → answer rows slice (length b) c .refusal ≡ o →

@@ -8,7 +8,7 @@ use lib.ListN.{length, length-append, replicate, length-replicate}
 use Rattle.basics.specs.Basics.{elim?}
 use Rattle.basics.specs.Limits.{labelSize}
 use Rattle.basics.specs.Refusals.{Refusal, refused, reply}
-use Rattle.naming.specs.Names.{cluesOf}
+use Rattle.naming.specs.Names.{Table, cluesOf}
 use Rattle.labelling.specs.Labels.{decodeCall, kinshipCall, followsCall, decodeRefusal, labelOf, Decoding, labelCheck, namesIn, Decoded, decode, path, stuck}
 use Rattle.store_calls.specs.Updates.{delete, enter, newStore}
 use Rattle.basics.specs.Outputs.{listed}
@@ -24,7 +24,7 @@ use Rattle.store_calls.proofs.Updates.{refusal-of, newStore-refused, newStore-s
 use Rattle.model.proofs.RefusedBy.{file-by, decoding-by, labels-by, new-store-by, entry-by, deletion-by, cut-by, match-by, print-by}
 
 -- decoding refuses as its checks do
-decoding-refusal : (rows : List (List ℕ)) (root : ℕ) (lw : List ℕ) → decodeCall rows root lw .refusal ≡ decodeRefusal rows root lw
+decoding-refusal : (rows : Table) (root : ℕ) (lw : List ℕ) → decodeCall rows root lw .refusal ≡ decodeRefusal rows root lw
 unfolding decodeCall elim?
 decoding-refusal rows root lw = go (decodeRefusal rows root lw)
   where
@@ -39,20 +39,20 @@ unfolding reply
 reply-refused none a r e = absurd (let z : _≡_ {A = ℕ} 0 1 = cc in omega arith)
 reply-refused (some s) a r e = cc
 
--- an output that holds the result keeps its length, and so does one that is refused
+-- an output keeps its length, whether the result is written or refused
 length-listed : (o : Option Refusal) (count : ℕ) (ws out : List ℕ) → (o ≡ none → length ws ≤ length out) → length (listed o count ws out .output) ≡ length out
 unfolding listed
 length-listed none count ws out h = length-over ws out (h refl)
 length-listed (some r) count ws out h = refl
 
--- names of a path that is short enough take sixteen places, and so does no path
+-- the names of a path of at most sixteen take sixteen places, and so do the zeros where there is no path
 length-namesIn : (d : Decoded) → ((ns : List ℕ) → d ≡ path ns → length ns ≤ labelSize) → length (namesIn d) ≡ labelSize
 unfolding namesIn
 length-namesIn (path ns) h = simp (length-append, length-replicate) (omega (arith, h ns refl))
 length-namesIn (stuck i) h = refl
 
--- decoding gives sixteen places
-sixteen-names : (rows : List (List ℕ)) (root : ℕ) (lw : List ℕ) → length (decodeCall rows root lw .names) ≡ labelSize
+-- decoding answers sixteen places
+sixteen-names : (rows : Table) (root : ℕ) (lw : List ℕ) → length (decodeCall rows root lw .names) ≡ labelSize
 unfolding decodeCall decodeRefusal labelCheck
 sixteen-names rows root lw = go (decodeRefusal rows root lw) (λ e.
     let label = labelOf-good lw (check-none _ _ _ (first-none _ _ (first-none _ _ (first-none _ _ e .1) .1) .0)) in
@@ -66,7 +66,7 @@ sixteen-names rows root lw = go (decodeRefusal rows root lw) (λ e.
     go none h = unfold elim? in h refl
     go (some r) h = unfold elim? in refl
 
--- the whole demand
+-- demand 1 holds
 pub demand1 : Demand1
 unfolding decodeCall kinshipCall followsCall newStore enter delete cut cutRefusal matchCall matchRefusal
 demand1 = record {

@@ -5,7 +5,7 @@ use mathlib.Core.Option.{none}
 use Prim.Native.Nat.{ℕ, zero, suc}
 use native.Mathlib.Omega.{arith}
 use lib.ListN.{length}
-use Rattle.naming.specs.Names.{Clues, tableCheck, cluesOf}
+use Rattle.naming.specs.Names.{Table, Clues, tableCheck, cluesOf}
 use Rattle.labelling.specs.Labels.{Label, above}
 use Rattle.patterns.specs.Twigs.{twigCheck, readTwig, wanted}
 use Rattle.storage.specs.Store.{rootOf, sizeCheck, soundCheck, elements, records}
@@ -30,7 +30,7 @@ use Rattle.book.proofs.Good.{snoc-root}
 use Rattle.model.proofs.Trees.{Has, Rooted, ancestor, decode-names}
 use Rattle.model.proofs.Embeddings.{full-ascending, full-embeddings}
 
--- what holds of the list of matches over accepted streams
+-- the list of matches over accepted streams is what demand 2 says of it
 list-holds : (cl : Clues) (root : ℕ) (bytes counts buffer : List ℕ) → twigCheck bytes ≡ none → streamsCheck cl root (readTwig bytes) counts buffer ≡ none →
     ListHolds cl root (readTwig bytes) (dealt (wanted (readTwig bytes)) counts buffer)
 list-holds cl root bytes counts buffer twig taken =
@@ -44,7 +44,7 @@ list-holds cl root bytes counts buffer twig taken =
       words = match-words cl root t good streams (streams-labels cl root t counts buffer taken);
     }
 
--- right above every element of an accepted store but record 0's stands another
+-- right above every element of an accepted store but record 0's stands another element
 store-rooted : (cl : Clues) (ws : List ℕ) (count : ℕ) → sizeCheck (length ws) count ≡ none → soundCheck cl count ws ≡ none → Rooted (elements count ws)
 unfolding elements records
 store-rooted cl ws zero size sound = absurd (omega (arith, size-iff (length ws) 0 .0 size .used))
@@ -54,8 +54,8 @@ store-rooted cl ws (suc n) size sound =
     (λ up c f. absurd (snoc-root up c (sym f ∙ sound-root cl n ws faultless)))
     (λ e m up c f. let p = sound-parents cl n ws faultless e m in (p .parent, p .stands, p .rightAbove ∙ ap above f ∙ above-snoc up c))
 
--- what holds of a sound store
-store-holds : (rows : List (List ℕ)) (ws : List ℕ) (count : ℕ) → tableCheck rows ≡ none → sizeCheck (length ws) count ≡ none →
+-- a sound store gives what demand 2 says of it
+store-holds : (rows : Table) (ws : List ℕ) (count : ℕ) → tableCheck rows ≡ none → sizeCheck (length ws) count ≡ none →
     soundCheck (cluesOf rows) count ws ≡ none → StoreHolds rows ws count
 store-holds rows ws count table size sound =
     let good = store-elements (cluesOf rows) ws count size sound in
@@ -80,7 +80,7 @@ store-holds rows ws count table size sound =
       matching = match-listed store;
     }
 
--- the whole demand
+-- demand 2 holds
 pub demand2 : Demand2
 unfolding matchCall matchesOf
 demand2 = record {

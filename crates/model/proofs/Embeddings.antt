@@ -27,7 +27,7 @@ module _ {cl : Clues} {root : ℕ} {es : List Element} (sound : SoundElements cl
   full-ascending = matches-ascending cl root t (streams t es) (streams-sound cl root t es sound .eachLeaf)
 
   module _ (rooted : Rooted es) (good : GoodTwig t) (m : Match) where
-    -- an element's label fits exactly the names that ask for its name
+    -- the label of an element fits exactly the names that ask for the element's name
     fits-named : (want : ℕ) (e : Element) → e ∈ es → T (fits cl root want (e .label)) ↔ T (asks want (e .name))
     unfolding fits elim?
     fits-named want e s = rw (sound .named e s) (λ h. h, λ h. h)
@@ -47,7 +47,8 @@ module _ {cl : Clues} {root : ℕ} {es : List Element} (sound : SoundElements cl
     leaf-asked : IsMatch cl root t (streams t es) m → (i : ℕ) → i < length t → T (isLeaf t i) → Asked (nodeAt t i .name) es (getD m i [])
     leaf-asked h i p leaf = streams-asked t es i (getD m i []) .0 (h .leaf i p leaf) .1
 
-    -- the label of a match at an inner record is that of an element whose name it asks for: a leaf's label stands below it
+    -- The label of a match at an inner node is that of an element whose name the node asks for:
+    -- a leaf's label goes on from it, and every label above an element's is an element's.
     inner-asked : IsMatch cl root t (streams t es) m → (i : ℕ) → i < length t → T (isParent t i) → Asked (nodeAt t i .name) es (getD m i [])
     inner-asked h i p inner =
         let (k, q, leaf, w) = leaf-below t good m (h .hung) i p in

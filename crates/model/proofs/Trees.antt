@@ -1,4 +1,5 @@
--- Elements of which each stands right below another, but for the root: what is above one stands too, and its label decodes to the names on its way.
+-- Elements of which each but the root's stands right below another:
+-- every label above an element's is an element's, and an element's label decodes to the names on its way.
 use mathlib.Core.Path.{_≡_, refl, sym, ap, subst, _∙_}
 use mathlib.Core.List.{List, [], _∷_, _++_, append-nil, append-assoc, map, map-map}
 use mathlib.Core.Option.{Option, none, some, Option·some-injective}
@@ -19,7 +20,7 @@ use Rattle.storage.proofs.Finding.{find-none, find-mem}
 one-deeper : (x : ℕ) (up low : Label) → T (within up low) → T (within (x ∷ up) (x ∷ low))
 one-deeper x up low w = let (rest, e) = within-iff up low .0 w in within-iff (x ∷ up) (x ∷ low) .1 (rest, ap (_∷_ x) e)
 
--- the name that the empty label decodes to is the one it starts at
+-- the empty label decodes to the name that decoding starts at
 first-name : (cl : Clues) (p : ℕ) (f : Label → ℕ) → nameAt cl p [] ≡ some (f []) → p ≡ f []
 first-name cl p f e = Option·some-injective p (f []) (sym (name-root cl p) ∙ e)
 
@@ -34,11 +35,11 @@ decode-prefixes cl p (x ∷ l) f h =
     let below = decode-prefixes cl c l (λ q. f (x ∷ q)) (λ q w. sym (name-cons cl p x c q leads) ∙ h (x ∷ q) (one-deeper x q l w)) in
     rw (leads, below, first-name cl p f (h [] (within-iff [] (x ∷ l) .1 (x ∷ l, refl))), map-map)
 
--- an element has a label
+-- some element has the label
 abbrev pub Has : List Element → Label → Type 0
 Has es l = (e : Element) × e ∈ es × (e .label ≡ l)
 
--- right above every element but the root stands another
+-- right above every element but the root's stands another element
 abbrev pub Rooted : List Element → Type 0
 Rooted es = (e : Element) → e ∈ es → (up : Label) (c : ℕ) → e .label ≡ up ++ (c ∷ []) → Has es up
 
@@ -50,7 +51,7 @@ module _ (es : List Element) (rooted : Rooted es) where
       let (e, m, f) = front rest (up ++ (c ∷ [])) (subst (Has es) (sym (append-assoc up (c ∷ []) rest)) h) in
       rooted e m up c f
 
-  -- whatever is above an element is an element
+  -- every label above an element's is an element's
   pub ancestor : (e : Element) → e ∈ es → (up : Label) → T (within up (e .label)) → Has es up
   ancestor e m up w = let (rest, f) = within-iff up (e .label) .0 w in front rest up (e, m, f)
 

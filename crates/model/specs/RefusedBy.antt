@@ -1,52 +1,52 @@
--- The numbers by which each call refuses, in the order of its checks, and what places they are given at.
+-- The numbers by which each call refuses, in the order of its checks, and the places that they are given at.
 use mathlib.Core.Path.{_≡_}
 use mathlib.Core.List.{List, [], _∷_}
 use Prim.Native.Nat.{ℕ, _≤_}
 use Rattle.basics.specs.Basics.{_∈_}
 use Rattle.basics.specs.Refusals.{Refusal, fileLength, nameTooHigh, pairAgain, twigLength, twigParent, twigEdge, nameAsked, twigEnd, noRecord, notInClue, tooDeep, noNumber, noSpace, rootStays, notLabel, emptyClue, shortOutput, storeSize, unsound, badStream, badRoot, badTable}
 
--- reading a child-name file: 1, 2, 3
+-- the numbers of reading a child-name file: 1, 2, 3
 unfoldable pub fileNumbers : List ℕ
 fileNumbers = fileLength ∷ nameTooHigh ∷ pairAgain ∷ []
 
--- decoding: 22, 21, 15, 16
+-- the numbers of decoding: 22, 21, 15, 16
 unfoldable pub decodingNumbers : List ℕ
 decodingNumbers = badTable ∷ badRoot ∷ notLabel ∷ emptyClue ∷ []
 
--- kinship and follows: 15
+-- the number of kinship and follows: 15
 unfoldable pub labelNumbers : List ℕ
 labelNumbers = notLabel ∷ []
 
--- new store: 18, 21
+-- the numbers of a new store: 18, 21
 unfoldable pub newStoreNumbers : List ℕ
 newStoreNumbers = storeSize ∷ badRoot ∷ []
 
--- entry: 22, 18, 19, 15, 9, 10, 11, 12, 13
+-- the numbers of an entry: 22, 18, 19, 15, 9, 10, 11, 12, 13
 unfoldable pub entryNumbers : List ℕ
 entryNumbers = badTable ∷ storeSize ∷ unsound ∷ notLabel ∷ noRecord ∷ notInClue ∷ tooDeep ∷ noNumber ∷ noSpace ∷ []
 
--- deletion: 22, 18, 19, 15, 14, 9
+-- the numbers of a deletion: 22, 18, 19, 15, 14, 9
 unfoldable pub deletionNumbers : List ℕ
 deletionNumbers = badTable ∷ storeSize ∷ unsound ∷ notLabel ∷ rootStays ∷ noRecord ∷ []
 
--- cutting: 22, 18, 19, 7, 17
+-- the numbers of cutting: 22, 18, 19, 7, 17
 unfoldable pub cutNumbers : List ℕ
 cutNumbers = badTable ∷ storeSize ∷ unsound ∷ nameAsked ∷ shortOutput ∷ []
 
--- matching: 22, 21, 4 to 8, 20, 17
+-- the numbers of matching: 22, 21, 4 to 8, 20, 17
 unfoldable pub matchNumbers : List ℕ
 matchNumbers = badTable ∷ badRoot ∷ twigLength ∷ twigParent ∷ twigEdge ∷ nameAsked ∷ twigEnd ∷ badStream ∷ shortOutput ∷ []
 
--- the program: 1 to 3, 18, 19, 4 to 8, 17
+-- the numbers of the program: 1 to 3, 18, 19, 4 to 8, 17
 unfoldable pub printNumbers : List ℕ
 printNumbers =
     fileLength ∷ nameTooHigh ∷ pairAgain ∷ storeSize ∷ unsound ∷ twigLength ∷ twigParent ∷ twigEdge ∷ nameAsked ∷ twigEnd ∷ shortOutput ∷ []
 
--- the numbers given at a pair, a record, a label or a component: 2, 3, 5 to 8, 16, 19, 20
+-- the numbers given at a pair, a node, a record, a label or a component: 2, 3, 5 to 8, 16, 19, 20
 unfoldable pub placedNumbers : List ℕ
 placedNumbers = nameTooHigh ∷ pairAgain ∷ twigParent ∷ twigEdge ∷ nameAsked ∷ twigEnd ∷ emptyClue ∷ unsound ∷ badStream ∷ []
 
--- a refusal by one of a call's numbers, at 0 where the number tells no place, at a component from 1 where it is 16
+-- a refusal by one of a call's numbers: at 0 where the number tells no place, at a component from 1 on where it is 16
 pub record RefusedBy (numbers : List ℕ) (r : Refusal) : Type 0 where
   pub listed : r .number ∈ numbers
   pub atZero : (r .number ∈ placedNumbers → ⊥) → r .place ≡ 0

@@ -10,11 +10,12 @@ use Rattle.patterns.specs.Twigs.{Twig, nodeAt}
 use Rattle.embeddings.specs.Matches.{Match, asks, hangs, prefixes}
 use Rattle.storage.specs.Store.{Element, elementAt}
 
--- the names on the way from the root to a label: of the element at each of its prefixes, the label's own the last
+-- the names on the way from the root to a label: of the element at each of the label's prefixes, its own the last
 unfoldable pub namesTo : List Element → Label → List ℕ
 namesTo es l = map (λ p. elementAt p es .name) (prefixes l)
 
--- An embedding: each twig record has the label of an element with a name that it asks for, and every edge holds.
+-- An embedding: each node of the twig has the label of an element with a name that the node asks for,
+-- and every edge holds.
 pub record Embedding (t : Twig) (es : List Element) (m : Match) : Type 0 where
   pub whole : length m ≡ length t
   pub placed : (i : ℕ) → i < length t → (e : Element) × e ∈ es × T (asks (nodeAt t i .name) (e .name)) × (e .label ≡ getD m i [])

@@ -9,7 +9,7 @@ use lib.ListN.{length, getD, take, drop, set, length-append, List·getD-append}
 use lib.Seq.{paste, paste-suc, drop-paste, take-add, take-at, drop-at, drop-drop, take-take, take-append-le, length-take-le, getD-take, getD-drop}
 
 module _ (d : List ℕ) (at : ℕ) (s : List ℕ) (n : ℕ) where
-  -- one more word written
+  -- one more word is written
   pub paste-more : {e : List ℕ} {x : ℕ} → e ≡ paste d at s n → at + n < length d → n < length s → x ≡ getD s n 0 → set e (at + n) x ≡ paste d at s (n + 1)
   paste-more p h k q = rw (p, q, add-one) (paste-suc d at s n 0 h k)
 
@@ -54,11 +54,11 @@ rest-kept d p n m e h =
     (sym (drop-drop (m - n) n (p ++ drop n d)) ∙ ap (λ t. drop (m - n) t) (drop-at p (drop n d) n e) ∙ drop-drop (m - n) n d)
 
 module _ (d : List ℕ) {f : List ℕ} (a b c : ℕ) (r s : List ℕ) where
-  -- a part replaced, then the part before it
+  -- a part replaced, and then the part before it, are one part replaced
   pub then-before : a ≤ b → b ≤ length d → f ≡ take b d ++ (s ++ drop c d) → take a f ++ (r ++ drop b f) ≡ take a d ++ (r ++ (s ++ drop c d))
   then-before h k p = rw (p, front-kept d (s ++ drop c d) a b h k, drop-at (take b d) (s ++ drop c d) b (length-take-le b d k))
 
-  -- a part replaced, then the part after it
+  -- a part replaced, and then the part after it, are one part replaced
   pub then-after : length (take a d ++ s) ≡ b → b ≤ c → f ≡ take a d ++ (s ++ drop b d) → take b f ++ (r ++ drop c f) ≡ take a d ++ (s ++ (r ++ drop c d))
   then-after e h p =
       let q = p ∙ sym (append-assoc (take a d) s (drop b d)) in

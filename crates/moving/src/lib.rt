@@ -7,7 +7,7 @@ ghost use lib.ListN.{length, take, drop};
 ghost use Rattle.basics.specs.Limits.{recordSize};
 ghost use Rattle.moving.specs.Moves.{put, shiftedUp, shiftedDown, cleared, inserted, removed};
 
-// A record copied to the place of another.
+// Copies a record to the place of another.
 fn copy_record(words: &mut [u16], from: usize, to: usize)
     requires { ⌜ (recordSize * (from + 1) ≤ length (now words)) × (recordSize * (to + 1) ≤ length (now words)) ⌝ }
     ensures { λ r. ⌜ now (words .exit) ≡ put (now (words .entry)) to (take recordSize (drop (recordSize * from) (now (words .entry)))) ⌝ }
@@ -19,7 +19,7 @@ fn copy_record(words: &mut [u16], from: usize, to: usize)
     }
 }
 
-// The records at .. count moved one place up, the last first.
+// Moves the records at .. count one place up, the last first.
 fn shift_up(words: &mut [u16], at: usize, count: usize)
     requires { ⌜ (at ≤ count) × (recordSize * (count + 1) ≤ length (now words)) ⌝ }
     ensures { λ r. ⌜ now (words .exit) ≡ shiftedUp (now (words .entry)) at count ⌝ }
@@ -31,7 +31,7 @@ fn shift_up(words: &mut [u16], at: usize, count: usize)
     }
 }
 
-// The records from .. count moved down to a lower place, the first first.
+// Moves the records from .. count down to a lower place, the first first.
 fn shift_down(words: &mut [u16], to: usize, from: usize, count: usize)
     requires { ⌜ (to ≤ from) × (from ≤ count) × (recordSize * count ≤ length (now words)) ⌝ }
     ensures { λ r. ⌜ now (words .exit) ≡ shiftedDown (now (words .entry)) to from count ⌝ }
@@ -43,7 +43,7 @@ fn shift_down(words: &mut [u16], to: usize, from: usize, count: usize)
     }
 }
 
-// The records from .. count filled with zeros.
+// Fills the records from .. count with zeros.
 fn clear_records(words: &mut [u16], from: usize, count: usize)
     requires { ⌜ (from ≤ count) × (recordSize * count ≤ length (now words)) ⌝ }
     ensures { λ r. ⌜ now (words .exit) ≡ cleared (now (words .entry)) from count ⌝ }
@@ -56,7 +56,7 @@ fn clear_records(words: &mut [u16], from: usize, count: usize)
     }
 }
 
-// A record put in the place of another.
+// Puts a record in the place of another.
 fn put_record(words: &mut [u16], at: usize, rec: &[u16])
     requires { ⌜ (length (now rec) ≡ recordSize) × (recordSize * (at + 1) ≤ length (now words)) ⌝ }
     ensures { λ r. ⌜ now (words .exit) ≡ put (now (words .entry)) at (now (rec .entry)) ⌝ }
@@ -64,7 +64,7 @@ fn put_record(words: &mut [u16], at: usize, rec: &[u16])
     overwrite(&mut words[Store::RECORD_WORDS * at..], rec);
 }
 
-// A record put in at a place, those from there to count moved one place up.
+// Puts a record in at a place, and moves those from there to count one place up.
 pub fn insert(words: &mut [u16], at: usize, count: usize, rec: &[u16])
     requires { ⌜ (at ≤ count) × (recordSize * (count + 1) ≤ length (now words)) × (length (now rec) ≡ recordSize) ⌝ }
     ensures { λ r. ⌜ now (words .exit) ≡ inserted (now (words .entry)) at count (now (rec .entry)) ⌝ }
@@ -73,7 +73,7 @@ pub fn insert(words: &mut [u16], at: usize, count: usize, rec: &[u16])
     put_record(words, at, rec);
 }
 
-// The records from .. to taken out, those to .. count moved down, the freed ones zeros.
+// Takes the records from .. to out, moves those to .. count down, and fills the freed ones with zeros.
 pub fn remove(words: &mut [u16], from: usize, to: usize, count: usize)
     requires { ⌜ (from < to) × (to ≤ count) × (recordSize * count ≤ length (now words)) ⌝ }
     ensures { λ r. ⌜ now (words .exit) ≡ removed (now (words .entry)) from to count ⌝ }

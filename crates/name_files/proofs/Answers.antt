@@ -8,7 +8,7 @@ use lib.ListN.{length, getD, set, replicate}
 use lib.Dec.{leb, eqb, leb→le, le→leb}
 use Rattle.basics.specs.Limits.{maxName, tableSize, filler, maxFile}
 use Rattle.basics.specs.Refusals.{refuse, fileLength, nameTooHigh, pairAgain}
-use Rattle.naming.specs.Names.{pairs, pairsCheck, fileCheck, emptyTable, readNames, cluesOf, placeIn}
+use Rattle.naming.specs.Names.{Table, pairs, pairsCheck, fileCheck, emptyTable, readNames, cluesOf, placeIn}
 use Rattle.basics.proofs.Tests.{and-iff, eqb-alike}
 use Rattle.basics.proofs.Refusals.{check-passed, check-failed, first-here, first-next}
 use Rattle.naming.proofs.NameFiles.{accepted-read, refused-read}
@@ -19,13 +19,13 @@ use Rattle.refusals.specs.Answers.{verdictOf}
 use Rattle.refusals.proofs.Verdicts.{passed-none, refused-some}
 use Rattle.clues.specs.declared.Place.{Place}
 use Rattle.clues.specs.declared.Place.the-variants as place
-use Rattle.clues.specs.Answers.{placeOf}
+use Rattle.clues.specs.Answers.{placeAnswer}
 use Rattle.clues.proofs.Children.{place-at, place-absent}
 use Rattle.name_files.specs.Answers.{PairsPut}
 use Rattle.name_files.proofs.Reading.{Reading, read-end, read-high-parent, read-high-child, read-again, read-room, read-on}
 
-module _ (file : List ℕ) {v : Verdict} {t : List (List ℕ)} where
-  -- a file is refused as its check says
+module _ (file : List ℕ) {v : Verdict} {t : Table} where
+  -- a file that its check refuses is answered by that refusal
   refused-by : (n place : ℕ) → fileCheck file ≡ refuse n place → v ≡ verdictOf (refuse n place) → PairsPut file v t
   refused-by n place f e = record { checked = e ∙ ap verdictOf (sym f); table = λ p. absurd (Option·some-ne-none _ (passed-none (refuse n place) e p)) }
 
@@ -48,7 +48,7 @@ module _ (file : List ℕ) (even : length file % 2 ≡ 0) (small : length file �
   by-pairs = first-next _ _ (check-passed _ fileLength 0
       (and-iff (eqb (length file % 2) 0) (leb (length file) maxFile) .1 (eqb-alike (length file % 2) 0 .1 even, le→leb (length file) maxFile small)))
 
-  module _ {t : List (List ℕ)} {i : ℕ} (r : Reading file t i) where
+  module _ {t : Table} {i : ℕ} (r : Reading file t i) where
     -- read to its end, a file is accepted and its table whole
     pub read-whole : length file / 2 ≤ i → PairsPut file verdict.Passed t
     read-whole h = let (passed, built) = read-end file r h in record { checked = ap verdictOf (sym (by-pairs ∙ passed)); table = λ p. built }
@@ -63,7 +63,7 @@ module _ (file : List ℕ) (even : length file % 2 ≡ 0) (small : length file �
       high-child k = refused-by file nameTooHigh i (by-pairs ∙ read-high-child file r h k)
 
     module _ (h : i < length file / 2) (parent : getD file (i * 2) 0 ≤ maxName) (child : getD file (i * 2 + 1) 0 ≤ maxName)
-        {p : Place} (e : p ≡ placeOf (placeIn (getD file (i * 2 + 1) 0) (cluesOf t (getD file (i * 2) 0)))) where
+        {p : Place} (e : p ≡ placeAnswer (placeIn (getD file (i * 2 + 1) 0) (cluesOf t (getD file (i * 2) 0)))) where
       -- a pair that stood before is refused by 3
       pub again : {k : ℕ} → p ≡ place.At k → {v : Verdict} → v ≡ verdictOf (refuse pairAgain i) → PairsPut file v t
       again at = refused-by file pairAgain i (by-pairs ∙ read-again file r h parent child _ (place-at _ e at))
@@ -73,20 +73,20 @@ module _ (file : List ℕ) (even : length file % 2 ≡ 0) (small : length file �
         pub room-left : k < tableSize
         room-left = read-room file r h parent child (place-absent _ e absent) k counted
 
-        -- a new pair is put at the end of that clue, and one pair more is read
+        -- a new pair is put at the end of its parent's clue, and one pair more is read
         pub more-read : Reading file (set t (getD file (i * 2) 0) (set (getD t (getD file (i * 2) 0) []) k (getD file (i * 2 + 1) 0))) (i + 1)
         more-read = read-on file r h parent child (place-absent _ e absent) k counted
 
--- rows of the filling alone are a table of empty clues
+-- rows of the filler alone are a table of empty clues
 pub empty-rows : replicate tableSize (replicate tableSize filler) ≡ emptyTable
 unfolding emptyTable
 empty-rows = refl
 
-module _ (file : List ℕ) {v : Verdict} {t : List (List ℕ)} (so : PairsPut file v t) where
+module _ (file : List ℕ) {v : Verdict} {t : Table} (so : PairsPut file v t) where
   -- an accepted file gives the table of its pairs
   pub table-read : v ≡ verdict.Passed → t ≡ readNames file .table
   table-read p = so .table p ∙ ap (λ a. a .table) (sym (accepted-read file (passed-none _ (so .checked) p)))
 
-  -- a refused file gives empty clues
+  -- a refused file gives a table of empty clues
   pub table-refused : {x : Refusal} → v ≡ verdict.Refused x → replicate tableSize (replicate tableSize filler) ≡ readNames file .table
   table-refused p = let (r, e) = refused-some _ (so .checked) p in empty-rows ∙ ap (λ a. a .table) (sym (refused-read file r e))

@@ -14,9 +14,9 @@ use lib.Dec.{T, eqb, eqb-refl, T-not, not-T, leb→le, le→leb}
 use Rattle.basics.specs.Basics.{_∈_, keep, upTo, stands}
 use Rattle.basics.specs.Limits.{maxName, tableSize, filler}
 use Rattle.basics.specs.Refusals.{refuse, nameTooHigh, pairAgain}
-use Rattle.naming.specs.Names.{isName, Pair, pairs, children, pairCheck, pairsCheck, rowOf, tableOf, emptyTable, cluesOf, placeIn}
+use Rattle.naming.specs.Names.{Table, isName, Pair, pairs, children, pairCheck, pairsCheck, rowOf, tableOf, emptyTable, cluesOf, placeIn}
 use Rattle.basics.proofs.Tests.{and-iff, is-true, is-false, eqb-alike}
-use Rattle.basics.proofs.Lists.{here, there, here-or-there, nowhere, member-at, keep-append, stands-iff}
+use Rattle.basics.proofs.Lists.{here, there, here-or-there, nowhere, member-at, keep-append, stands-iff, reverse-mem}
 use Rattle.basics.proofs.Refusals.{first-none, first-next, first-here, first-passed, last-passed, check-passed, check-failed}
 use Rattle.naming.proofs.Once.{pigeonhole}
 use Rattle.naming.proofs.NameTables.{placed-at, placeIn-none}
@@ -34,17 +34,17 @@ pairsCheck-on i earlier (q ∷ done) qs e =
     first-next _ _ this ∙ pairsCheck-on (suc i) (q ∷ earlier) done qs (first-none _ _ rest .0) ∙
     ap (λ i. pairsCheck i (reverseAux done (q ∷ earlier)) qs) d
 
--- the children of a name in pairs and one more
+-- the children of a name in some pairs and one more pair
 children-snoc : (qs : List Pair) (q : Pair) (p : ℕ) → children (qs ++ (q ∷ [])) p ≡ children qs p ++ children (q ∷ []) p
 unfolding children
 children-snoc qs q p = rw (keep-append, map-append)
 
--- the pair's own parent has its child
+-- one pair gives its parent its child
 children-here : (q : Pair) → children (q ∷ []) (q .parent) ≡ q .child ∷ []
 unfolding children keep
 children-here q = rw (is-true (eqb (q .parent) (q .parent)) (eqb-refl (q .parent)))
 
--- no other name has it
+-- one pair gives no child to a name that is not its parent
 children-elsewhere : (q : Pair) (p : ℕ) → (q .parent ≡ p → ⊥) → children (q ∷ []) p ≡ []
 unfolding children keep
 children-elsewhere q p n = rw (is-false (eqb (q .parent) p) (λ t. n (eqb-alike (q .parent) p .0 t)))
@@ -103,26 +103,18 @@ pairs-at (p ∷ c ∷ bytes) (suc i) h =
     let d : suc (suc (i * 2)) + 1 ≡ suc (suc (i * 2 + 1)) = omega arith in
     rw (e, d) (pairs-at bytes i (omega arith))
 
--- the members of a list turned round are its members
-reverse-iff : {A : Type 0} (l m : List A) (a : A) → a ∈ reverseAux l m ↔ (a ∈ l ⊎ a ∈ m)
-reverse-iff [] m a = (inr, ⊎-elim (λ h. absurd (nowhere h)) (λ h. h))
-reverse-iff (x ∷ l) m a = (
-  λ h. ⊎-elim (λ k. inl (there k)) (λ k. ⊎-elim (λ e. inl (here e)) inr (here-or-there k)) (reverse-iff l (x ∷ m) a .0 h),
-  λ h. reverse-iff l (x ∷ m) a .1 (⊎-elim (λ k. ⊎-elim (λ e. inr (here e)) inl (here-or-there k)) (λ k. inr (there k)) h),
-)
-
 -- the reading of a file so far: the first i pairs pass, and are the table
-pub record Reading (file : List ℕ) (t : List (List ℕ)) (i : ℕ) : Type 0 where
+pub record Reading (file : List ℕ) (t : Table) (i : ℕ) : Type 0 where
   pub inside : i ≤ length file / 2
   pub built : t ≡ tableOf (take i (pairs file))
   pub passed : pairsCheck 0 [] (take i (pairs file)) ≡ none
 
 -- at the start no pair was read
-pub read-start : (file : List ℕ) {t : List (List ℕ)} → t ≡ emptyTable → Reading file t 0
+pub read-start : (file : List ℕ) {t : Table} → t ≡ emptyTable → Reading file t 0
 unfolding pairsCheck
 read-start file e = record { inside = omega arith; built = e ∙ unfold emptyTable tableOf upTo rowOf children keep in refl; passed = refl }
 
-module _ (file : List ℕ) {t : List (List ℕ)} {i : ℕ} (r : Reading file t i) (h : i < length file / 2) where
+module _ (file : List ℕ) {t : Table} {i : ℕ} (r : Reading file t i) (h : i < length file / 2) where
   -- the pair to read
   abbrev pub pair : Pair
   pair = record { parent = getD file (i * 2) 0; child = getD file (i * 2 + 1) 0 }
@@ -137,7 +129,7 @@ module _ (file : List ℕ) {t : List (List ℕ)} {i : ℕ} (r : Reading file t i
       split-at (pairs file) i (record { parent = 0; child = 0 }) (omega (arith, length-pairs file)) ∙
       ap (λ q. done ++ (q ∷ drop (suc i) (pairs file))) (pairs-at file i (omega arith))
 
-  -- as many pairs were read
+  -- as many pairs were read as the index says
   length-done : length done ≡ i
   length-done = length-take-le i (pairs file) (omega (arith, length-pairs file))
 
@@ -155,33 +147,33 @@ module _ (file : List ℕ) {t : List (List ℕ)} {i : ℕ} (r : Reading file t i
   clue-now : pair .parent ≤ maxName → cluesOf t (pair .parent) ≡ children done (pair .parent)
   clue-now name = ap (λ t. cluesOf t (pair .parent)) (r .built) ∙ clues-tableOf done done-good (pair .parent) name
 
-  -- a pair that stood before is one of those read, and so its child one of the clue
+  -- a pair stood before exactly if its child stands in the clue of its parent
   stood-iff : pair .parent ≤ maxName → T (stands (pair .child) (children (reverseAux done []) (pair .parent))) ↔ (pair .child ∈ cluesOf t (pair .parent))
   stood-iff name =
-      let back = reverse-iff done [] pair in
+      let back = reverse-mem done [] pair in
       let now = children-iff done (pair .parent) (pair .child) in (
         λ s. subst (λ l. pair .child ∈ l) (sym (clue-now name))
             (now .1 (⊎-elim (λ m. m) (λ m. absurd (nowhere m)) (back .0 (children-iff _ _ _ .0 (stands-iff _ _ .0 s))))),
         λ m. stands-iff _ _ .1 (children-iff _ _ _ .1 (back .1 (inl (now .0 (subst (λ l. pair .child ∈ l) (clue-now name) m))))),
       )
 
-  -- a name above 63 is refused, 2 at the pair
+  -- a pair with a name above 63 is refused, 2 at the pair
   read-high : (T (isName (pair .parent) && isName (pair .child)) → ⊥) → pairsCheck 0 [] (pairs file) ≡ refuse nameTooHigh i
   unfolding pairsCheck pairCheck
   read-high n = check-on ∙ first-here _ _ _ (first-here _ _ _ (check-failed _ nameTooHigh i n))
 
-  -- a parent above 63
+  -- a pair with a parent above 63 is refused
   pub read-high-parent : maxName < pair .parent → pairsCheck 0 [] (pairs file) ≡ refuse nameTooHigh i
   unfolding isName
   read-high-parent k = read-high (λ t. omega (arith, leb→le (pair .parent) maxName (and-iff (isName (pair .parent)) (isName (pair .child)) .0 t .0)))
 
-  -- a child above 63
+  -- a pair with a child above 63 is refused
   pub read-high-child : maxName < pair .child → pairsCheck 0 [] (pairs file) ≡ refuse nameTooHigh i
   unfolding isName
   read-high-child k = read-high (λ t. omega (arith, leb→le (pair .child) maxName (and-iff (isName (pair .parent)) (isName (pair .child)) .0 t .1)))
 
   module _ (parent-name : pair .parent ≤ maxName) (child-name : pair .child ≤ maxName) where
-    -- both are names
+    -- the parent and the child of the pair are names
     names : T (isName (pair .parent) && isName (pair .child))
     unfolding isName
     names = and-iff (isName (pair .parent)) (isName (pair .child)) .1 (le→leb _ maxName parent-name, le→leb _ maxName child-name)
@@ -196,14 +188,14 @@ module _ (file : List ℕ) {t : List (List ℕ)} {i : ℕ} (r : Reading file t i
         check-failed _ pairAgain i (λ t. T-not (stands (pair .child) _) t stood))
 
     module _ (absent : placeIn (pair .child) (cluesOf t (pair .parent)) ≡ none) where
-      -- a new pair passes
+      -- a pair that did not stand before passes
       new-passed : pairCheck i (reverseAux done []) pair ≡ none
       unfolding pairCheck
       new-passed =
           first-next _ _ (check-passed _ nameTooHigh i names) ∙
           check-passed _ pairAgain i (not-T (stands (pair .child) _) (λ s. placeIn-none _ _ .0 absent (stood-iff parent-name .0 s)))
 
-      -- so the pairs up to it pass
+      -- the pairs up to a new pair pass
       more-passed : pairsCheck 0 [] (done ++ (pair ∷ [])) ≡ none
       unfolding pairsCheck
       more-passed =
@@ -211,7 +203,7 @@ module _ (file : List ℕ) {t : List (List ℕ)} {i : ℕ} (r : Reading file t i
           pairsCheck-on 0 [] done (pair ∷ []) (r .passed) ∙ ap (λ n. pairsCheck n (reverseAux done []) (pair ∷ [])) e ∙
           first-passed _ _ new-passed (last-passed _ refl)
 
-      -- the clue has room for the name: all of them differ
+      -- the clue has room for one more name, since all of its names differ
       room : length (children done (pair .parent)) < tableSize
       room =
           let good = children-good (done ++ (pair ∷ [])) (pairsCheck-iff 0 [] _ .0 more-passed .0) (pair .parent) in
@@ -224,7 +216,7 @@ module _ (file : List ℕ) {t : List (List ℕ)} {i : ℕ} (r : Reading file t i
           )
 
       module _ (k : ℕ) (counted : k ≡ length (cluesOf t (pair .parent))) where
-        -- as the code counts it
+        -- the number of names that the code counts in the clue leaves room
         pub read-room : k < tableSize
         read-room = omega (arith, room, ap length (clue-now parent-name))
 
@@ -244,8 +236,8 @@ module _ (file : List ℕ) {t : List (List ℕ)} {i : ℕ} (r : Reading file t i
               passed = ap (pairsCheck 0 []) more ∙ more-passed;
             }
 
--- a file that was read to its end
-pub read-end : (file : List ℕ) {t : List (List ℕ)} {i : ℕ} → Reading file t i → length file / 2 ≤ i →
+-- a file that was read to its end passes, and the table is that of its pairs
+pub read-end : (file : List ℕ) {t : Table} {i : ℕ} → Reading file t i → length file / 2 ≤ i →
     (pairsCheck 0 [] (pairs file) ≡ none) × (t ≡ tableOf (pairs file))
 read-end file {t} {i} r h =
     let all : take i (pairs file) ≡ pairs file = take-all i (pairs file) (omega (arith, length-pairs file)) in

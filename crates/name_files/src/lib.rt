@@ -13,10 +13,10 @@ ghost use Rattle.naming.specs.Names.{fileCheck, emptyTable, readNames};
 ghost use Rattle.refusals.specs.Answers.{verdictOf};
 ghost use Rattle.name_files.specs.Answers.{PairsPut};
 
-// A child-name file has at most 8,192 bytes.
+// How many bytes a child-name file has at most.
 pub const MAX_FILE: usize = 8192;
 
-// Puts the pairs of a child-name file into a table of empty clues: 1 to 3, or all of them stand there.
+// Puts the pairs of a child-name file into a table of empty clues: refused by 1 to 3, or all pairs stand in the table.
 fn put_pairs(file: &[u8], table: &mut Table) -> Verdict
     requires { ⌜ now table ≡ emptyTable ⌝ }
     ensures { λ r. ⌜ PairsPut (now (file .entry)) r (now (table .exit)) ⌝ }
@@ -49,7 +49,7 @@ fn put_pairs(file: &[u8], table: &mut Table) -> Verdict
     Verdict::Passed
 }
 
-// The check of a child-name file, 1 to 3.
+// The check of a child-name file: 1 to 3.
 pub fn check_names(file: &[u8]) -> Verdict
     ensures { λ r. ⌜ r ≡ verdictOf (fileCheck (now (file .entry))) ⌝ }
 {
@@ -57,7 +57,7 @@ pub fn check_names(file: &[u8]) -> Verdict
     put_pairs(file, &mut seen)
 }
 
-// The table that a child-name file gives; a refused one gives a table of empty clues.
+// The table that a child-name file gives; a refused file gives a table of empty clues.
 pub fn read_names(file: &[u8]) -> Table
     ensures { λ r. ⌜ r ≡ readNames (now (file .entry)) .table ⌝ }
 {

@@ -19,12 +19,12 @@ module _ (row : List ℕ) (i : ℕ) where
   names-end h = rw drop-of-length-le
 
   module _ (h : i < length row) where
-    -- at the filling the names end
+    -- at the filler the names end
     pub names-stop : getD row i 0 ≡ filler → namesOf (drop i row) ≡ []
     unfolding namesOf
     names-stop e = rw (from-cons row i 0, eq-eqb _ _ e)
 
-    -- any other number is the next of them
+    -- a number other than the filler is the next name
     pub names-on : (getD row i 0 ≡ filler → ⊥) → namesOf (drop i row) ≡ getD row i 0 ∷ namesOf (drop (i + 1) row)
     unfolding namesOf
     names-on e = rw (from-cons row i 0, ne-eqb _ _ e)
@@ -34,16 +34,16 @@ module _ (row : List ℕ) (i : ℕ) where
   Counted = length (namesOf row) ≡ i + length (namesOf (drop i row))
 
   module _ (inv : Counted) where
-    -- the count at the row's end
+    -- a count that has come to the row's end is the number of its names
     pub count-end : length row ≤ i → i ≡ length (namesOf row)
     count-end h = rw (inv, names-end h) (omega arith)
 
     module _ (h : i < length row) where
-      -- the count at the filling
+      -- a count that has come to the filler is the number of names
       pub count-stop : getD row i 0 ≡ filler → i ≡ length (namesOf row)
       count-stop e = rw (inv, names-stop h e) (omega arith)
 
-      -- the count goes on
+      -- at a number other than the filler the count goes on
       pub count-on : (getD row i 0 ≡ filler → ⊥) → length (namesOf row) ≡ i + 1 + length (namesOf (drop (i + 1) row))
       count-on e = rw (inv, names-on h e) (omega arith)
 

@@ -1,15 +1,15 @@
 // Names, and the table of what may stand below them: its rows, and how many names each has.
 ghost use mathlib.Core.Path.{_≡_};
 ghost use lib.ListN.{length};
-ghost use Rattle.naming.specs.Names as model;
+ghost use Rattle.naming.specs.Names as spec;
 
 // The highest name.
 pub const MAX_NAME: u8 = 63;
-// The rows of a table, and the places of a row.
+// How many rows a table has, and how many places a row.
 pub const TABLE_SIZE: usize = 64;
 // What a row is filled up with.
 pub const FILLER: u8 = 255;
-// 255 asks for any name.
+// The number that asks for any name.
 pub const ANY_NAME: u8 = 255;
 
 // Row p has the child names of name p, in file order, filled up with 255.
@@ -22,16 +22,16 @@ pub fn whole(row: &[u8; 64]) -> &[u8]
     row
 }
 
-// The rows as a slice.
+// The rows of a table as a slice.
 pub fn rows_of(table: &Table) -> &[[u8; 64]]
     ensures { λ r. ⌜ (now r ≡ now (table .entry)) × (length (now r) ≡ 64) ⌝ }
 {
     table
 }
 
-// How many names a row has before its filling.
+// How many names a row has before its filler.
 pub fn row_len(row: &[u8]) -> usize
-    ensures { λ r. ⌜ r ≡ length (model.namesOf (now (row .entry))) ⌝ }
+    ensures { λ r. ⌜ r ≡ length (spec.namesOf (now (row .entry))) ⌝ }
 {
     let mut i: usize = 0;
     while i < row.len() {

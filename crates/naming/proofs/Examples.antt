@@ -4,7 +4,7 @@ use Rattle.basics.specs.Examples.{Hold}
 use Rattle.naming.specs.Examples.{nameChecks, fileRefusals}
 use Rattle.naming.proofs.Computing.{computing}
 
--- the definitions give what the paper says
+-- of names the definitions give what the paper says
 pub name-checks : Hold nameChecks
 unfolding computing
 name-checks = refl

@@ -26,7 +26,7 @@ pub record GoodClue (clue : List ℕ) : Type 0 where
   pub names : (c : ℕ) → c ∈ clue → c ≤ maxName
   pub once : T (not (twice clue))
 
--- the names of a clue with a filling behind it are the clue
+-- the names of a clue with a filler behind it are the clue
 names-filled : (n : ℕ) (clue : List ℕ) → ((c : ℕ) → c ∈ clue → c ≤ maxName) → namesOf (clue ++ replicate n filler) ≡ clue
 unfolding namesOf
 names-filled zero [] h = refl
@@ -51,7 +51,7 @@ module _ (clue : List ℕ) (good : GoodClue clue) where
       let few : length clue ≤ tableSize = pigeonhole tableSize clue (good .once) (λ c m. omega (arith, good .names c m)) in
       simp (length-append, length-replicate) (omega arith)
 
-  -- a clue's row passes
+  -- a clue's row passes the test of a row
   pub goodRow-rowOf : T (goodRow (rowOf clue))
   unfolding rowOf
   goodRow-rowOf =
@@ -69,7 +69,7 @@ module _ (clue : List ℕ) (good : GoodClue clue) where
 pub children-good : (qs : List Pair) → GoodPairs qs → (p : ℕ) → GoodClue (children qs p)
 children-good qs g p = record { names = λ c m. g .names _ (children-iff qs p c .0 m) .1; once = g .once p }
 
--- the row of a name in the table of pairs
+-- the table of pairs has for each name the row of its children
 pub tableOf-row : (qs : List Pair) (p : ℕ) → p < tableSize → getD (tableOf qs) p [] ≡ rowOf (children qs p)
 unfolding tableOf
 tableOf-row qs p h = map-upTo (λ p. rowOf (children qs p)) [] tableSize p h
@@ -79,17 +79,17 @@ empty-table : emptyTable ≡ tableOf []
 unfolding emptyTable tableOf upTo rowOf children keep
 empty-table = refl
 
--- what a reader answers to an accepted file
+-- an accepted child-name file is read into the table of its pairs
 pub accepted-read : (bytes : List ℕ) → fileCheck bytes ≡ none → readNames bytes ≡ record { refusal = none; table = tableOf (pairs bytes) }
 unfolding readNames elim?
 accepted-read bytes e = rw e
 
--- and to a refused one
+-- a refused child-name file is read into a table of empty clues, with the refusal
 pub refused-read : (bytes : List ℕ) (r : Refusal) → fileCheck bytes ≡ some r → readNames bytes ≡ record { refusal = some r; table = emptyTable }
 unfolding readNames elim?
 refused-read bytes r e = rw e
 
--- the reader refuses as the check of the file does
+-- the reader refuses a child-name file as its check does
 pub read-refusal : (bytes : List ℕ) → readNames bytes .refusal ≡ fileCheck bytes
 read-refusal bytes = go (fileCheck bytes) refl
   where
@@ -101,7 +101,7 @@ read-refusal bytes = go (fileCheck bytes) refl
 pub refused-table : (bytes : List ℕ) (r : Refusal) → readNames bytes .refusal ≡ some r → readNames bytes .table ≡ emptyTable
 refused-table bytes r e = ap (λ a. a .table) (refused-read bytes r (sym (read-refusal bytes) ∙ e))
 
--- a file gives the table of good pairs: of its own where it is accepted, of none where it is refused
+-- a file is read into a table of good pairs: of the file's own where it is accepted, of none where it is refused
 read-table : (bytes : List ℕ) → (qs : List Pair) × GoodPairs qs × (readNames bytes .table ≡ tableOf qs)
 read-table bytes = go (fileCheck bytes) refl
   where
@@ -120,24 +120,24 @@ tableCheck-tableOf qs g = tableCheck-iff (tableOf qs) .1 (λ p h.
     let q : p < tableSize = omega (arith, length-tableOf qs) in
     rw (tableOf-row qs p q) (goodRow-iff (rowOf (children qs p)) .0 (goodRow-rowOf (children qs p) (children-good qs g p))))
 
--- every file, accepted or refused, gives a table that is accepted
+-- every file, accepted or refused, is read into a table that is accepted
 pub file-table : (bytes : List ℕ) → tableCheck (readNames bytes .table) ≡ none
 file-table bytes = let (qs, g, e) = read-table bytes in rw e (tableCheck-tableOf qs g)
 
--- it has sixty-four rows
+-- the table that a file is read into has sixty-four rows
 pub file-size : (bytes : List ℕ) → length (readNames bytes .table) ≡ tableSize
 file-size bytes = let (qs, g, e) = read-table bytes in rw e (length-tableOf qs)
 
--- of sixty-four places each
+-- every row of the table that a file is read into has sixty-four places
 pub file-rows : (bytes : List ℕ) (p : ℕ) → p < tableSize → length (getD (readNames bytes .table) p []) ≡ tableSize
 file-rows bytes p h = let (qs, g, e) = read-table bytes in rw (e, tableOf-row qs p h) (length-rowOf (children qs p) (children-good qs g p))
 
--- the clues of the table of good pairs are the children
+-- in the table of good pairs the clue of a name is the name's children
 pub clues-tableOf : (qs : List Pair) → GoodPairs qs → (p : ℕ) → p ≤ maxName → cluesOf (tableOf qs) p ≡ children qs p
 unfolding cluesOf
 clues-tableOf qs g p h = rw (tableOf-row qs p (omega arith)) (namesOf-rowOf (children qs p) (children-good qs g p))
 
--- the clues of an accepted file are the children in file order
+-- in the table of an accepted file the clue of a name is the name's children in file order
 pub file-clues : (bytes : List ℕ) → fileCheck bytes ≡ none → (p : ℕ) → p ≤ maxName → cluesOf (readNames bytes .table) p ≡ children (pairs bytes) p
 file-clues bytes e p h =
     ap (λ a. cluesOf (a .table) p) (accepted-read bytes e) ∙ clues-tableOf (pairs bytes) (pairs-good bytes (fileCheck-iff bytes .0 e)) p h

@@ -30,7 +30,7 @@ children-iff qs p c = (
     of-p : Pair → Bool
     of-p q = eqb (q .parent) p
 
--- the children of a name among the pairs with one in front
+-- the children of a name where one more pair stands in front
 children-cons : (q : Pair) (qs : List Pair) (p : ℕ) → children (q ∷ qs) p ≡ cond (eqb (q .parent) p) (q .child ∷ children qs p) (children qs p)
 unfolding children keep
 children-cons q qs p = go (eqb (q .parent) p)
@@ -47,12 +47,12 @@ pub record GoodPairs (qs : List Pair) : Type 0 where
   pub names : (q : Pair) → q ∈ qs → (q .parent ≤ maxName) × (q .child ≤ maxName)
   pub once : (p : ℕ) → T (not (twice (children qs p)))
 
--- where there are no pairs, they are good
+-- a list of no pairs is good
 pub no-pairs : GoodPairs []
 unfolding children keep twice
 no-pairs = record { names = λ q m. absurd (nowhere m); once = λ p. tt }
 
--- pairs are good exactly if the first holds names and does not stand again and the rest are good
+-- pairs are good exactly if the first holds names and does not stand again, and the rest are good
 good-cons : (q : Pair) (qs : List Pair) → GoodPairs (q ∷ qs) ↔ ((q .parent ≤ maxName) × (q .child ≤ maxName) × (q ∈ qs → ⊥) × GoodPairs qs)
 good-cons q qs = (
   λ g.
@@ -141,7 +141,7 @@ pairsCheck-iff i earlier (q ∷ qs) =
           ),
     )
 
--- the facts of refusals 1 to 3
+-- the facts of refusals 1 to 3 that an accepted file has: an even length, at most 8,192, names, and no pair twice
 pub record GoodFile (bytes : List ℕ) : Type 0 where
   pub even : length bytes % 2 ≡ 0
   pub small : length bytes ≤ maxFile
@@ -157,7 +157,7 @@ pub length-iff : (bytes : List ℕ) → T (eqb (length bytes % 2) 0 && leb (leng
 length-iff bytes = and-facts (eqb (length bytes % 2) 0) (leb (length bytes) maxFile) (eqb-alike (length bytes % 2) 0)
     (leb→le (length bytes) maxFile, le→leb (length bytes) maxFile)
 
--- a file is accepted exactly if the facts hold
+-- a file is accepted exactly if the facts of refusals 1 to 3 hold
 pub fileCheck-iff : (bytes : List ℕ) → fileCheck bytes ≡ none ↔ GoodFile bytes
 unfolding fileCheck
 fileCheck-iff bytes = Iff·trans (first-iff _ _ (check-iff _ fileLength 0 (length-iff bytes)) (last-iff _ (pairsCheck-iff 0 [] (pairs bytes)))) (

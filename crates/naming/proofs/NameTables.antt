@@ -14,7 +14,7 @@ use lib.Dec.{T, eqb, eqb-refl, leb→le, le→leb}
 use Rattle.basics.specs.Basics.{_∈_, all}
 use Rattle.basics.specs.Limits.{maxName, filler}
 use Rattle.basics.specs.Refusals.{badTable, badRoot}
-use Rattle.naming.specs.Names.{placeIn, led, isName, namesOf, cluesOf, twice, goodRow, tableCheck, rootCheck}
+use Rattle.naming.specs.Names.{Table, placeIn, led, isName, namesOf, cluesOf, twice, goodRow, tableCheck, rootCheck}
 use Rattle.basics.proofs.Tests.{and-iff, is-true, is-false, eqb-alike, Tells, passes, fails, eq?}
 use Rattle.basics.proofs.Lists.{here, there, here-or-there, nowhere, all-at, member-at}
 use Rattle.basics.proofs.Refusals.{check-none, check-passed, check-iff}
@@ -27,7 +27,7 @@ record Begin (row names : List ℕ) : Type 0 where
   before : (i : ℕ) → i < length names → getD row i 0 ≡ filler → ⊥
   ended : length names < length row → getD row (length names) 0 ≡ filler
 
--- the names of a row do
+-- the names of a row begin it, up to its first 255
 names-begin : (row : List ℕ) → Begin row (namesOf row)
 unfolding namesOf
 names-begin [] = record { short = omega arith; alike = λ i p. refl; before = λ i p. absurd (omega arith); ended = λ p. absurd (omega arith) }
@@ -55,7 +55,7 @@ names-begin (x ∷ xs) = go (names-begin xs) (eqb x filler) (eq? x filler)
         before zero p = h
         before (suc i) p = below .before i (le-of-suc-le-suc p)
 
--- what the test of a row tells of its names: they are names, 255 alone follows, none stands twice
+-- what the test of a row tells: its names are 0 to 63, 255 alone follows them, and none stands twice
 pub row-tests : (row : List ℕ) → T (goodRow row) ↔
     (((i : ℕ) → i < length (namesOf row) → getD row i 0 ≤ maxName) ×
     ((i : ℕ) → length (namesOf row) ≤ i → i < length row → getD row i 0 ≡ filler) ×
@@ -92,7 +92,7 @@ pub record IsRow (row : List ℕ) : Type 0 where
   pub filling : (i j : ℕ) → i < j → j < length row → getD row i 0 ≡ filler → getD row j 0 ≡ filler
   pub once : (i j : ℕ) → i < j → j < length row → getD row i 0 ≡ getD row j 0 → getD row i 0 ≡ filler
 
--- a row passes exactly if the three facts hold
+-- a row passes exactly if the three facts of refusal 22 hold
 pub goodRow-iff : (row : List ℕ) → T (goodRow row) ↔ IsRow row
 goodRow-iff row =
     let n : ℕ = length (namesOf row) in
@@ -117,8 +117,8 @@ goodRow-iff row =
       ),
     )
 
--- a table is accepted exactly if each of its rows has the three facts
-pub tableCheck-iff : (rows : List (List ℕ)) → tableCheck rows ≡ none ↔ ((p : ℕ) → p < length rows → IsRow (getD rows p []))
+-- a table is accepted exactly if each of its rows has the three facts of refusal 22
+pub tableCheck-iff : (rows : Table) → tableCheck rows ≡ none ↔ ((p : ℕ) → p < length rows → IsRow (getD rows p []))
 unfolding tableCheck
 tableCheck-iff rows = (
   λ h p q. goodRow-iff (getD rows p []) .0 (all-at goodRow [] rows .0 (check-none (all goodRow rows) badTable 0 h) p q),
@@ -155,7 +155,7 @@ placeIn-none c (x ∷ xs) = go (placeIn-none c xs) (eqb x c) (eq? x c)
       λ h. map-eq-none-iff suc _ .1 (below .1 (λ m. h (there m))),
     )
 
--- a name of a clue has the place at which it stands
+-- in a clue in which no name stands twice, a name has the place at which it stands
 pub place-once : (cs : List ℕ) → T (not (twice cs)) → (k : ℕ) → k < length cs → placeIn (getD cs k 0) cs ≡ some k
 unfolding placeIn
 place-once [] h k p = absurd (not-suc-le-zero p)
@@ -167,19 +167,19 @@ place-once (x ∷ xs) h (suc k) p =
     rw (other, place-once xs apart k inside)
 
 -- in an accepted table every clue comes from a good row: past the last row from an empty one
-clue-row : (rows : List (List ℕ)) → tableCheck rows ≡ none → (p : ℕ) → T (goodRow (getD rows p []))
+clue-row : (rows : Table) → tableCheck rows ≡ none → (p : ℕ) → T (goodRow (getD rows p []))
 unfolding goodRow namesOf twice all
 clue-row rows h p = by-cases (decLt p (length rows))
     (λ q. goodRow-iff (getD rows p []) .1 (tableCheck-iff rows .0 h p q))
     (λ q. rw (List·getD-eq-default rows [] {n = p} (omega arith)) tt)
 
 -- in an accepted table no name stands twice in a clue
-pub clue-once : (rows : List (List ℕ)) → tableCheck rows ≡ none → (p : ℕ) → T (not (twice (cluesOf rows p)))
+pub clue-once : (rows : Table) → tableCheck rows ≡ none → (p : ℕ) → T (not (twice (cluesOf rows p)))
 unfolding cluesOf
 clue-once rows h p = row-tests (getD rows p []) .0 (clue-row rows h p) .2
 
--- and clues hold names alone
-pub clue-names : (rows : List (List ℕ)) → tableCheck rows ≡ none → (p c : ℕ) → c ∈ cluesOf rows p → c ≤ maxName
+-- in an accepted table clues hold names alone
+pub clue-names : (rows : Table) → tableCheck rows ≡ none → (p c : ℕ) → c ∈ cluesOf rows p → c ≤ maxName
 unfolding cluesOf
 clue-names rows h p c m =
     let row : List ℕ = getD rows p [] in

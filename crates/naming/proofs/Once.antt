@@ -1,4 +1,4 @@
--- Lists of numbers in which none stands twice.
+-- Lists of numbers in which no number stands twice.
 use mathlib.Core.Path.{_≡_, refl, sym, _∙_}
 use mathlib.Core.Logic.{_↔_, Iff·rfl, Iff·symm, Iff·trans, Iff·and, inl, inr, ⊎-elim}
 use mathlib.Core.Bool.{Bool, true, false, cond, _||_, not}
@@ -13,7 +13,7 @@ use Rattle.naming.specs.Names.{twice}
 use Rattle.basics.proofs.Tests.{or-iff, eqb-alike, Tells, passes, fails, eq?}
 use Rattle.basics.proofs.Lists.{here, keep-iff, keep-all, member-at, stands-iff}
 
--- no number stands twice exactly if the first does not stand again and none of the rest stands twice
+-- no number stands twice exactly if the first does not stand again and in the rest none stands twice
 pub once-cons : (x : ℕ) (xs : List ℕ) → T (not (twice (x ∷ xs))) ↔ ((x ∈ xs → ⊥) × T (not (twice xs)))
 unfolding twice
 once-cons x xs = (
@@ -43,13 +43,13 @@ differ-cons d x xs = (
     go new apart zero (suc j) p q e = new (member-at d xs x .1 (j, le-of-suc-le-suc q, sym e))
     go new apart (suc i) (suc j) p q e = apart i j (le-of-suc-le-suc p) (le-of-suc-le-suc q) e
 
--- no number stands twice exactly if those at two places differ
+-- no number stands twice exactly if the numbers at any two places differ
 pub twice-iff : (l : List ℕ) → T (not (twice l)) ↔ Differ 0 l
 unfolding twice
 twice-iff [] = (λ h i j p q. absurd (not-suc-le-zero q), λ h. tt)
 twice-iff (x ∷ xs) = Iff·trans (once-cons x xs) (Iff·trans (Iff·and Iff·rfl (twice-iff xs)) (Iff·symm (differ-cons 0 x xs)))
 
--- where no number stands twice, none does in what a test keeps
+-- where no number of a list stands twice, none does in what a test keeps of it
 pub keep-once : (f : ℕ → Bool) (l : List ℕ) → T (not (twice l)) → T (not (twice (keep f l)))
 unfolding keep twice
 keep-once f [] h = tt
@@ -59,7 +59,7 @@ keep-once f (x ∷ l) h = let (new, apart) = once-cons x l .0 h in go new (keep-
     go new below true = once-cons x (keep f l) .1 (λ m. new (keep-iff f l x .0 m .0), below)
     go new below false = below
 
--- where no number stands twice, leaving one out leaves one less at most
+-- where no number of a list stands twice, leaving out one number leaves at most one member less
 without-one : (n : ℕ) (l : List ℕ) → T (not (twice l)) → length l ≤ suc (length (keep (λ c. not (eqb c n)) l))
 unfolding keep
 without-one n [] h = omega arith
@@ -74,7 +74,7 @@ without-one n (x ∷ l) h = let (new, apart) = once-cons x l .0 h in go new (wit
         rw (keep-all (λ c. not (eqb c n)) l other) (omega arith)
     go new below false (fails k) = omega arith
 
--- numbers below n of which none stands twice are n at most
+-- a list of numbers below n in which none stands twice has at most n members
 pub pigeonhole : (n : ℕ) (l : List ℕ) → T (not (twice l)) → ((c : ℕ) → c ∈ l → c < n) → length l ≤ n
 pigeonhole zero [] h k = omega arith
 pigeonhole zero (x ∷ l) h k = absurd (not-suc-le-zero (k x (here refl)))

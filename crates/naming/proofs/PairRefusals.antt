@@ -15,12 +15,13 @@ use Rattle.basics.specs.Limits.{maxName, maxFile}
 use Rattle.basics.specs.Refusals.{Refusal, refuse, check, first, fileLength, nameTooHigh, pairAgain}
 use Rattle.naming.specs.Names.{Pair, pairs, children, pairCheck, pairsCheck, fileCheck}
 use Rattle.basics.proofs.Tests.{decide}
-use Rattle.basics.proofs.Lists.{here, there, here-or-there, nowhere}
-use Rattle.basics.proofs.Refusals.{check-none, check-passed, check-refuses, refuse-number, first-last, first-both, first-here, first-next, first-some, first-place, last-place, Never, never-none, never-check, never-first, never-nil}
+use Rattle.basics.proofs.Lists.{nowhere, reverse-mem}
+use Rattle.basics.proofs.Refusals.{check-none, check-passed, check-refuses, refuse-number, first-last, first-both, first-here, first-next, first-some, Never, Other, each-none, each-check, each-first, each-last}
 use Rattle.naming.proofs.Once.{Differ}
 use Rattle.naming.proofs.NamePairs.{noPair, goodPairs-iff, pair-named, pair-stood, pair-new, pairsCheck-iff, length-iff}
 
--- of two checks the first gives its number exactly if its fact does not hold, the second if the first's holds and its own does not
+-- Of two checks the first gives its number exactly if its fact does not hold.
+-- The second gives its number exactly if the first's fact holds and its own does not.
 two-checks : {P Q : Type 0} (a b : Bool) (m n i : ℕ) → (m ≡ n → ⊥) → T a ↔ P → T b ↔ Q →
     (first (check a m i ∷ check b n i ∷ []) ≡ refuse m i ↔ (P → ⊥)) × (first (check a m i ∷ check b n i ∷ []) ≡ refuse n i ↔ (P × (Q → ⊥)))
 unfolding check first
@@ -35,27 +36,27 @@ two-checks true false m n i other e f = (
 two-checks false b m n i other e f = ((λ h. e .1, λ h. refl), (λ h. absurd (other (refuse-number h)), λ h. absurd (e .1 (h .0))))
 
 module _ (i : ℕ) (earlier : List Pair) (q : Pair) where
-  -- which number a pair is refused by
+  -- a pair is refused by 2 or by 3, as the facts of its two checks say
   pair-numbers : (pairCheck i earlier q ≡ refuse nameTooHigh i ↔ (((q .parent ≤ maxName) × (q .child ≤ maxName)) → ⊥)) ×
       (pairCheck i earlier q ≡ refuse pairAgain i ↔ (((q .parent ≤ maxName) × (q .child ≤ maxName)) × ((q ∈ earlier → ⊥) → ⊥)))
   unfolding pairCheck
   pair-numbers = two-checks _ _ nameTooHigh pairAgain i (λ e. omega arith) (pair-named q) (pair-new earlier q)
 
-  -- 2 is given exactly if one of its names is above 63
+  -- a pair is refused by 2 exactly if one of its names is above 63
   pair-high : pairCheck i earlier q ≡ refuse nameTooHigh i ↔ ((maxName < q .parent) ⊎ (maxName < q .child))
   pair-high = Iff·trans (pair-numbers .0) (
     λ n. by-cases (decLt maxName (q .parent)) inl (λ a. by-cases (decLt maxName (q .child)) inr (λ b. absurd (n (omega arith, omega arith)))),
     ⊎-elim (λ h n. omega (arith, n .0)) (λ h n. omega (arith, n .1)),
   )
 
-  -- 3 is given exactly if it holds names and stood before
+  -- a pair is refused by 3 exactly if it holds names and stood before
   pair-again : pairCheck i earlier q ≡ refuse pairAgain i ↔ (((q .parent ≤ maxName) × (q .child ≤ maxName)) × q ∈ earlier)
   pair-again = Iff·trans (pair-numbers .1) (
     λ h. (h .0, ⊎-elim (pair-stood earlier q .0) (λ n. absurd (h .1 (λ m. n (pair-stood earlier q .1 m)))) (decide (stands (q .child) (children earlier (q .parent))))),
     λ h. (h .0, λ n. n (h .1)),
   )
 
--- pair j is the first of some pairs that is refused, after earlier ones
+-- pair j is the first that is refused of some pairs that come after earlier ones
 record Fault (i : ℕ) (earlier qs : List Pair) (j : ℕ) (r : Refusal) : Type 0 where
   inside : j < length qs
   accepted : pairsCheck i earlier (take j qs) ≡ none
@@ -76,7 +77,7 @@ fault-told i earlier (q ∷ qs) r e = ⊎-elim now (λ h. later (h .0) (fault-to
         let z : i + suc j ≡ suc i + j = omega arith in
         (suc j, record { inside = omega (arith, h .inside); accepted = first-next _ _ d ∙ h .accepted; refused = rw z (h .refused) })
 
--- pairs are refused as the first of them that is refused
+-- pairs are refused as the first refused one among them is
 fault-says : (i : ℕ) (earlier qs : List Pair) (j : ℕ) (r : Refusal) → Fault i earlier qs j r → pairsCheck i earlier qs ≡ some r
 unfolding pairsCheck
 fault-says i earlier [] j r f = absurd (omega (arith, f .inside))
@@ -89,25 +90,19 @@ fault-says i earlier (q ∷ qs) (suc j) r f =
 -- a pair is refused at its own place
 pairCheck-place : (i : ℕ) (earlier : List Pair) (q : Pair) (r : Refusal) → pairCheck i earlier q ≡ some r → r .place ≡ i
 unfolding pairCheck
-pairCheck-place i earlier q r = first-place _ nameTooHigh i _ r (last-place _ pairAgain i r)
+pairCheck-place i earlier q =
+    let P : Refusal → Type 0 = λ r. r .place ≡ i in
+    each-first P _ _ (each-check P _ nameTooHigh i refl) (each-last P _ (each-check P _ pairAgain i refl))
 
--- pairs are never refused by 1
+-- the pairs of a file are never refused by 1
 pairs-never : (i : ℕ) (earlier qs : List Pair) → Never fileLength (pairsCheck i earlier qs)
 unfolding pairsCheck pairCheck
-pairs-never i earlier [] = never-none fileLength
+pairs-never i earlier [] = each-none (Other fileLength)
 pairs-never i earlier (q ∷ qs) =
-    never-first fileLength _ _
-    (never-first fileLength _ _ (never-check fileLength _ nameTooHigh i (λ e. omega arith))
-    (never-first fileLength _ _ (never-check fileLength _ pairAgain i (λ e. omega arith)) (never-nil fileLength)))
-    (never-first fileLength _ _ (pairs-never (suc i) (q ∷ earlier) qs) (never-nil fileLength))
-
--- the members of a list put in front of another, the last one first, are those of both
-reverse-mem : {A : Type 0} (l m : List A) (a : A) → a ∈ reverseAux l m ↔ (a ∈ l ⊎ a ∈ m)
-reverse-mem [] m a = (inr, ⊎-elim (λ h. absurd (nowhere h)) (λ h. h))
-reverse-mem (x ∷ l) m a = Iff·trans (reverse-mem l (x ∷ m) a) (
-  ⊎-elim (λ h. inl (there h)) (λ h. ⊎-elim (λ e. inl (here e)) inr (here-or-there h)),
-  ⊎-elim (λ h. ⊎-elim (λ e. inr (here e)) inl (here-or-there h)) (λ h. inr (there h)),
-)
+    let P = Other fileLength in
+    each-first P _ _
+    (each-first P _ _ (each-check P _ nameTooHigh i (λ e. omega arith)) (each-last P _ (each-check P _ pairAgain i (λ e. omega arith))))
+    (each-last P _ (pairs-never (suc i) (q ∷ earlier) qs))
 
 -- pair j of a file of an accepted length: the pairs before it hold names, and none of them stands twice
 pub record AtPair (bytes : List ℕ) (j : ℕ) : Type 0 where
@@ -118,17 +113,18 @@ pub record AtPair (bytes : List ℕ) (j : ℕ) : Type 0 where
   pub once : Differ noPair (take j (pairs bytes))
 
 module _ (bytes : List ℕ) where
-  -- a file is refused by another number than 1 exactly if its length is accepted and its pairs are refused by it
+  -- a file is refused by a number other than 1 exactly if its length is accepted
+  -- and its pairs are refused by that number
   file-pairs : (n j : ℕ) → (fileLength ≡ n → ⊥) →
       fileCheck bytes ≡ refuse n j ↔ (((length bytes % 2 ≡ 0) × (length bytes ≤ maxFile)) × (pairsCheck 0 [] (pairs bytes) ≡ refuse n j))
   unfolding fileCheck
   file-pairs n j other = (
-    λ e. ⊎-elim (λ h. absurd (never-check n _ fileLength 0 other _ h refl)) (λ h. (length-iff bytes .0 (check-none _ fileLength 0 (h .0)), sym (first-last _) ∙ h .1))
+    λ e. ⊎-elim (λ h. absurd (each-check (Other n) _ fileLength 0 other _ h refl)) (λ h. (length-iff bytes .0 (check-none _ fileLength 0 (h .0)), sym (first-last _) ∙ h .1))
         (first-some _ _ _ e),
     λ h. first-next _ _ (check-passed _ fileLength 0 (length-iff bytes .1 (h .0))) ∙ h .1,
   )
 
-  -- 1 is given exactly if the length is odd or over 8,192
+  -- a file is refused by 1 exactly if its length is odd or over 8,192
   pub one-iff : fileCheck bytes ≡ refuse fileLength 0 ↔ (((length bytes % 2 ≡ 0) × (length bytes ≤ maxFile)) → ⊥)
   unfolding fileCheck
   one-iff = (
@@ -137,7 +133,8 @@ module _ (bytes : List ℕ) where
   )
 
   module _ (n j : ℕ) (other : fileLength ≡ n → ⊥) where
-    -- a file is refused by another number at a pair exactly if the pairs before it are good and it is refused by that number
+    -- A file is refused at a pair by a number other than 1 exactly if the pairs before it are good
+    -- and the pair is refused by that number.
     file-at : fileCheck bytes ≡ refuse n j ↔
         (AtPair bytes j × (pairCheck j (reverseAux (take j (pairs bytes)) []) (getD (pairs bytes) j noPair) ≡ refuse n j))
     file-at = Iff·trans (file-pairs n j other) (
@@ -159,12 +156,13 @@ module _ (bytes : List ℕ) where
       ),
     )
 
-  -- 2 is given at a pair exactly if the pairs before it are good and one of its names is above 63
+  -- a file is refused by 2 at a pair exactly if the pairs before it are good and one of its names is above 63
   pub two-iff : (j : ℕ) → fileCheck bytes ≡ refuse nameTooHigh j ↔
       (AtPair bytes j × ((maxName < getD (pairs bytes) j noPair .parent) ⊎ (maxName < getD (pairs bytes) j noPair .child)))
   two-iff j = Iff·trans (file-at nameTooHigh j (λ e. omega arith)) (Iff·and Iff·rfl (pair-high j _ (getD (pairs bytes) j noPair)))
 
-  -- 3 is given at a pair exactly if the pairs before it are good, its names are 0 to 63 and it is one of those before it
+  -- A file is refused by 3 at a pair exactly if the pairs before it are good, the pair's names are 0 to 63
+  -- and the pair is one of those before it.
   pub three-iff : (j : ℕ) → fileCheck bytes ≡ refuse pairAgain j ↔
       (AtPair bytes j × (((getD (pairs bytes) j noPair .parent ≤ maxName) × (getD (pairs bytes) j noPair .child ≤ maxName)) ×
       getD (pairs bytes) j noPair ∈ take j (pairs bytes)))

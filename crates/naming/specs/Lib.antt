@@ -1,4 +1,4 @@
 -- Names, and what may stand below them.
 pub mod Names
--- Examples.
+-- Examples that the checker works through.
 pub mod Examples

@@ -22,24 +22,24 @@ use Rattle.moving.specs.Moves.{inserted}
 use Rattle.changes.specs.Answers.{rootElement, changed, changeOf}
 
 module _ (ws : List ℕ) (root p0 p1 : ℕ) {b : Bool} (is : b ≡ isSlice (length ws)) where
-  -- a length that is no slice's
+  -- a length that is no slice's is refused by 18
   pub new-odd : not b ≡ true → {v : Verdict} → v ≡ verdictOf (refuse storeSize 0) →
       changed (record { verdict = v; count = 0 }) ws ≡ changeOf (newStore ws root p0 p1)
   unfolding newStore newStoreRefusal check first elim?
   new-odd e f = rw (f, ← is, not-true b e)
 
   module _ (e : not b ≡ false) where
-    -- a root name above 63
+    -- a root name above 63 is refused by 21
     pub new-high : maxName < root → {v : Verdict} → v ≡ verdictOf (refuse badRoot 0) →
         changed (record { verdict = v; count = 0 }) ws ≡ changeOf (newStore ws root p0 p1)
     unfolding newStore newStoreRefusal rootCheck isName check first elim?
     new-high h f = rw (f, ← is, not-false b e, lt-leb root maxName h)
 
-    -- the slice holds a record
+    -- the slice has room for one record
     pub new-room : recordSize * (0 + 1) ≤ length ws
     new-room = let (whole, positive) = slice-iff (length ws) .0 (subst T (sym (not-false b e) ∙ is) tt) in omega arith
 
-    -- the record put in before all is the first
+    -- where nothing is refused, the root's record is put in as record 0
     pub new-done : root ≤ maxName → {rec lent ws′ : List ℕ} → rec ≡ elementWords (rootElement root p0 p1) → lent ≡ rec → ws′ ≡ inserted ws 0 0 lent →
         changed (record { verdict = verdict.Passed; count = 1 }) ws′ ≡ changeOf (newStore ws root p0 p1)
     unfolding newStore newStoreRefusal rootCheck isName check first elim? over inserted elementWords labelWords

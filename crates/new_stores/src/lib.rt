@@ -10,12 +10,12 @@ use refusals::Verdict;
 use refusals::refuse;
 ghost use mathlib.Core.Path.{_≡_};
 ghost use lib.ListN.{getD};
-ghost use Rattle.store_calls.specs.Updates as model;
+ghost use Rattle.store_calls.specs.Updates as spec;
 ghost use Rattle.changes.specs.Answers.{changed, changeOf};
 
-// A new store: record 0 from a name and two payload words. 18, 21.
+// A new store, its record 0 from a name and two payload words: 18, 21.
 pub fn new_store(words: &mut [u16], root: u8, payload: [u16; 2]) -> Change
-    ensures { λ r. ⌜ changed r (now (words .exit)) ≡ changeOf (model.newStore (now (words .entry)) root (getD payload 0 0) (getD payload 1 0)) ⌝ }
+    ensures { λ r. ⌜ changed r (now (words .exit)) ≡ changeOf (spec.newStore (now (words .entry)) root (getD payload 0 0) (getD payload 1 0)) ⌝ }
 {
     if !Store::is_slice(words.len()) {
         return Change {

@@ -1,9 +1,9 @@
 // The number that a new child's label ends with.
 use labels::Label;
 ghost use mathlib.Core.Path.{_≡_};
-ghost use Rattle.numbers.specs.Answers.{numberOf, numberFor};
+ghost use Rattle.numbers.specs.Answers.{numberAnswer, numberFor};
 
-// The number given to a child.
+// The number given to a child, or that none is left.
 pub enum Number {
     Given(u16),
     NoneLeft,
@@ -11,7 +11,7 @@ pub enum Number {
 
 // A number, unless it is over the largest component.
 fn fit(x: usize) -> Number
-    ensures { λ r. ⌜ r ≡ numberOf x ⌝ }
+    ensures { λ r. ⌜ r ≡ numberAnswer x ⌝ }
 {
     if x <= Label::MAX_COMPONENT as usize {
         Number::Given(x as u16)

@@ -4,7 +4,7 @@ use Rattle.patterns.specs.Examples.{garageTwig, patternChecks}
 use Rattle.patterns.specs.RefusalChecks.{chainTwig, twigRefusals}
 use Rattle.labelling.proofs.Computing.{computing as below}
 
--- `unfolding computing` opens them all
+-- `unfolding computing` opens every definition named here
 unfoldable pub computing : Unit {0}
 unfolding below readTwig parentFits nameCheck nodeCheck nodesCheck twigCheck isParent isLeaf wanted leafNames garageTwig patternChecks chainTwig twigRefusals
 computing = tt

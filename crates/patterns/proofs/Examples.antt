@@ -4,7 +4,7 @@ use Rattle.basics.specs.Examples.{Hold}
 use Rattle.patterns.specs.Examples.{patternChecks}
 use Rattle.patterns.proofs.Computing.{computing}
 
--- the definitions give what the paper says
+-- of twigs the definitions give what the paper says
 pub pattern-checks : Hold patternChecks
 unfolding computing
 pattern-checks = refl

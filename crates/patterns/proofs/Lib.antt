@@ -1,7 +1,7 @@
--- Twigs.
+-- Laws of twigs.
 pub mod TwigBytes
 pub mod TwigRefusals
--- Examples.
+-- Examples that the checker works through.
 pub mod Computing
 pub mod Examples
 pub mod RefusalChecks

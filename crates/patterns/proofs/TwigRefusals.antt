@@ -1,4 +1,5 @@
--- Refusals 4 to 8 by their facts: the length's, or that of the first record with a fact that fails, by the first of its facts that does.
+-- Refusals 4 to 8 by their facts: that of the length,
+-- or of the first node with a fact that fails, by the first of the node's facts that does.
 use mathlib.Core.Path.{_≡_, refl, sym, ap, subst, _∙_}
 use mathlib.Core.Logic.{_↔_, _⊎_, inl, inr, ⊎-elim}
 use mathlib.Core.Bool.{Bool, true, false}
@@ -31,7 +32,7 @@ told-at false n i m j e = (
 told-by : {P : Type 0} (b : Bool) (n m i : ℕ) → T b ↔ P → check b n i ≡ refuse m i ↔ ((m ≡ n) × (P → ⊥))
 told-by b n m i e = let told = told-at b n i m i e in (λ h. (told .0 h .0, told .0 h .2), λ h. told .1 (h .0, refl, h .1))
 
--- a check and others refuse by a number exactly if the check does, or its fact holds and the others do
+-- a list of checks refuses by a number exactly if its first check does, or that check's fact holds and the others do
 told-first : {P Q : Type 0} (b : Bool) (n m i : ℕ) (cs : List (Option Refusal)) → T b ↔ P → first cs ≡ refuse m i ↔ Q →
     first (check b n i ∷ cs) ≡ refuse m i ↔ (((m ≡ n) × (P → ⊥)) ⊎ (P × Q))
 told-first b n m i cs e f = (
@@ -39,26 +40,26 @@ told-first b n m i cs e f = (
   ⊎-elim (λ d. first-here _ _ cs (told-by b n m i e .1 d)) (λ k. first-rest _ cs (check-iff b n i e .1 (k .0)) ∙ f .1 (k .1)),
 )
 
--- the fact of 5: record 0 has no parent, another an earlier one
+-- the fact of refusal 5: node 0 has no parent, another node an earlier one
 abbrev pub ParentFact : ℕ → ℕ → Type 0
 ParentFact i p = (i ≡ 0 → p ≡ noParent) × (0 < i → p < i)
 
--- the fact of 6: the edge is to a child or to a descendant
+-- the fact of refusal 6: the edge is to a child or to a descendant
 abbrev pub EdgeFact : ℕ → Type 0
 EdgeFact e = (e ≡ childEdge) ⊎ (e ≡ descendantEdge)
 
--- the fact of 7: the name is one, or 255
+-- the fact of refusal 7: the name asked for is 0 to 63 or 255
 abbrev pub NameFact : ℕ → Type 0
 NameFact n = (n ≤ maxName) ⊎ (n ≡ anyName)
 
--- the first fact of record i that fails is that of a number
+-- the first fact that fails of node i is that of the refusal with a number
 abbrev pub NodeBreaks : ℕ → ℕ → ℕ → ℕ → ℕ → ℕ → Type 0
 NodeBreaks i p e n z number =
     ((number ≡ twigParent) × (ParentFact i p → ⊥)) ⊎ (ParentFact i p ×
     (((number ≡ twigEdge) × (EdgeFact e → ⊥)) ⊎ (EdgeFact e ×
     (((number ≡ nameAsked) × (NameFact n → ⊥)) ⊎ (NameFact n × ((number ≡ twigEnd) × (z ≡ 0 → ⊥)))))))
 
--- a record is refused by a number exactly if the first of its facts that fails is that number's
+-- a node is refused by a number exactly if the first of its facts that fails is that number's
 pub nodeCheck-refused : (i p e n z number : ℕ) → nodeCheck i p e n z ≡ refuse number i ↔ NodeBreaks i p e n z number
 unfolding nodeCheck nameCheck isName
 nodeCheck-refused i p e n z number =
@@ -67,16 +68,16 @@ nodeCheck-refused i p e n z number =
     (told-first _ nameAsked number i _ (or-facts (leb n maxName) (eqb n anyName) (leb→le n maxName, le→leb n maxName) (eqb-alike n anyName))
     (subst (λ o. o ≡ refuse number i ↔ ((number ≡ twigEnd) × (z ≡ 0 → ⊥))) (sym (first-last _)) (told-by (eqb z 0) twigEnd number i (eqb-alike z 0)))))
 
--- the first fact that fails of a record with the number m at place j is that of a number
+-- the first fact that fails of the node with the number m at place j is that of the refusal with a number
 abbrev pub BreaksAt : ℕ → List ℕ → ℕ → ℕ → Type 0
 BreaksAt m bytes j =
     NodeBreaks m (getD bytes (nodeSize * j) 0) (getD bytes (nodeSize * j + 1) 0) (getD bytes (nodeSize * j + 2) 0) (getD bytes (nodeSize * j + 3) 0)
 
--- what a later record breaks is told by the bytes after the first record
+-- what a later node breaks is told by the bytes behind the first node
 breaks-later : (i p e n z : ℕ) (bytes : List ℕ) (j number : ℕ) → BreaksAt (i + suc j) (p ∷ e ∷ n ∷ z ∷ bytes) (suc j) number ≡ BreaksAt (suc i + j) bytes j number
 breaks-later i p e n z bytes j number = simp (unary-clauses, suc-add)
 
--- the first record with a fact that fails, the records' numbers beginning at i: its place, and the number of the fact
+-- the first node with a fact that fails, where nodes are numbered from i on: its place, and the number of the fact
 pub record FirstBroken (i : ℕ) (bytes : List ℕ) (number place : ℕ) : Type 0 where
   pub node : ℕ
   pub inside : nodeSize * node + 3 < length bytes
@@ -84,11 +85,12 @@ pub record FirstBroken (i : ℕ) (bytes : List ℕ) (number place : ℕ) : Type 
   pub earlier : (k : ℕ) → k < node → FactsAt (i + k) bytes k
   pub breaks : BreaksAt (i + node) bytes node number
 
--- no record is broken where there is none
+-- bytes too few for a node have no broken node
 none-broken : {i : ℕ} {bytes : List ℕ} {number place : ℕ} → length bytes < 4 → FirstBroken i bytes number place → ⊥
 none-broken short f = omega (arith, f .inside)
 
--- records are refused by a number at a place exactly if the first record with a fact that fails is there, and the first such fact is the number's
+-- Nodes are refused by a number at a place exactly if the first node with a fact that fails is at the place
+-- and the first of its facts that fails has the number.
 pub nodesCheck-refused : (i : ℕ) (bytes : List ℕ) (number place : ℕ) → nodesCheck i bytes ≡ refuse number place ↔ FirstBroken i bytes number place
 unfolding nodesCheck
 nodesCheck-refused i [] number place = (λ h. absurd (Option·none-ne-some _ h), λ f. absurd (none-broken (omega arith) f))
@@ -139,17 +141,18 @@ nodesCheck-refused i (p ∷ e ∷ n ∷ z ∷ bytes) number place =
       breaks = rw breaks-later at breaks;
     })
 
--- the facts of 4: the length is not 0, at most 32 and a multiple of 4
+-- the facts of refusal 4: the length is not 0, at most 32 and a multiple of 4
 abbrev pub LengthFact : ℕ → Type 0
 LengthFact n = ((0 < n) × (n ≤ maxTwig)) × (n % nodeSize ≡ 0)
 
--- a twig is refused by 4 at 0 exactly if its length is no twig's, and else by 5 to 8 exactly at the first record with a fact that fails
+-- A twig is refused by 4 at 0 exactly if its length is no twig's,
+-- and else by 5 to 8 exactly at the first node with a fact that fails.
 pub twigCheck-refused : (bytes : List ℕ) (number place : ℕ) → twigCheck bytes ≡ refuse number place ↔
     (((number ≡ twigLength) × (place ≡ 0) × (LengthFact (length bytes) → ⊥)) ⊎ (LengthFact (length bytes) × FirstBroken 0 bytes number place))
 unfolding twigCheck
 twigCheck-refused bytes number place =
     let fits = length-iff (length bytes) in
-    let records = nodesCheck-refused 0 bytes number place in (
-      λ h. ⊎-elim (λ d. inl (told-at _ twigLength 0 number place fits .0 d)) (λ k. inr (check-iff _ twigLength 0 fits .0 (k .0), records .0 (sym (first-last _) ∙ k .1))) (first-some _ _ _ h),
-      ⊎-elim (λ d. first-here _ _ _ (told-at _ twigLength 0 number place fits .1 d)) (λ k. first-next _ _ (check-iff _ twigLength 0 fits .1 (k .0)) ∙ records .1 (k .1)),
+    let nodes = nodesCheck-refused 0 bytes number place in (
+      λ h. ⊎-elim (λ d. inl (told-at _ twigLength 0 number place fits .0 d)) (λ k. inr (check-iff _ twigLength 0 fits .0 (k .0), nodes .0 (sym (first-last _) ∙ k .1))) (first-some _ _ _ h),
+      ⊎-elim (λ d. first-here _ _ _ (told-at _ twigLength 0 number place fits .1 d)) (λ k. first-next _ _ (check-iff _ twigLength 0 fits .1 (k .0)) ∙ nodes .1 (k .1)),
     )

@@ -1,5 +1,5 @@
--- Twigs.
+-- Twigs and their checks.
 pub mod Twigs
--- Examples.
+-- Examples that the checker works through.
 pub mod Examples
 pub mod RefusalChecks

@@ -8,11 +8,11 @@ use Rattle.basics.specs.Limits.{noParent, anyName}
 use Rattle.basics.specs.Examples.{Check, is, shown}
 use Rattle.patterns.specs.Twigs.{descendantEdge, twigCheck}
 
--- a twig of so many records, each the parent of the next
+-- the bytes of a twig of so many nodes, each the parent of the next
 unfoldable pub chainTwig : ℕ → List ℕ
 chainTwig n = joined (map (λ i. cond (eqb i 0) noParent (i - 1) ∷ descendantEdge ∷ anyName ∷ 0 ∷ []) (upTo n))
 
--- the author of a twig: 4, then record by record 5 to 8; eight records taken, nine refused
+-- the refusals of a twig: 4, then node by node 5 to 8; eight nodes are taken and nine refused
 unfoldable pub twigRefusals : List Check
 twigRefusals =
     is (shown (twigCheck [])) (4 ∷ 0 ∷ [])

@@ -1,5 +1,4 @@
 -- What is printed, check by check: the line of a refusal where one refuses, else what the others decide.
--- Assumes nothing.
 use Prim.Native.Nat.{ℕ}
 use mathlib.Core.Path.{_≡_, ap}
 use mathlib.Core.List.{List, [], _∷_}
@@ -15,18 +14,22 @@ use Rattle.refusals.specs.Answers.{verdictOf, refusalOf}
 use Rattle.refusals.specs.declared.Refusal as declared
 use Rattle.refusals.specs.declared.Verdict.{Verdict}
 use Rattle.refusals.specs.declared.Verdict.the-variants as verdict
-use Rattle.printing.specs.Texts.{Prints, told, printedBy}
+use Rattle.printing.specs.Texts.{Prints, refusalTold, printedBy}
 
 -- a refusal that was answered is the check's
-told-is : (o : Option Refusal) {v : Verdict} {x : declared.Refusal} → v ≡ verdictOf o → v ≡ verdict.Refused x → o ≡ some (told x)
+told-is : (o : Option Refusal) {v : Verdict} {x : declared.Refusal} → v ≡ verdictOf o → v ≡ verdict.Refused x → o ≡ some (refusalTold x)
 told-is none is e = absurd (let z : _≡_ {A = ℕ} 0 1 = cc in omega arith)
-told-is (some r) {x = x} is e = let same : refusalOf r ≡ x = cc in ap (λ x. some (told x)) same
+told-is (some r) {x = x} is e = let same : refusalOf r ≡ x = cc in ap (λ x. some (refusalTold x)) same
 
--- what is printed is as it stands in another form
+-- equal bytes are printed alike
 pub prints-as : {a b : List ℕ} {n : ℕ} {left text : List ℕ} → b ≡ a → Prints a n left text → Prints b n left text
 prints-as e p = rw e p
 
--- matches where no check is left
+-- bytes printed, as two equations
+pub prints-told : {bytes : List ℕ} {n : ℕ} {left text : List ℕ} → Prints bytes n left text → (n ≡ length bytes) × (left ≡ over bytes text)
+prints-told p = (p .many, p .stand)
+
+-- matches are printed where no check is left
 pub prints-matches : (ms : List Match) {n : ℕ} {left text : List ℕ} → n ≡ length (matchesText ms) → left ≡ over (matchesText ms) text →
     Prints (printedBy [] ms) n left text
 unfolding printedBy first elim?
@@ -38,8 +41,8 @@ module _ (o : Option Refusal) (cs : List (Option Refusal)) (ms : List Match) whe
   unfolding printedBy
   printed-on e = ap (λ r. elim? r (matchesText ms) refusalText) (first-rest o cs e)
 
-  -- one that does is printed
+  -- a check that refuses has its refusal printed
   pub printed-refused : {v : Verdict} {x : declared.Refusal} → v ≡ verdictOf o → v ≡ verdict.Refused x →
-      {n : ℕ} {left text : List ℕ} → Prints (refusalText (told x)) n left text → Prints (printedBy (o ∷ cs) ms) n left text
+      {n : ℕ} {left text : List ℕ} → Prints (refusalText (refusalTold x)) n left text → Prints (printedBy (o ∷ cs) ms) n left text
   unfolding printedBy elim?
   printed-refused is e = prints-as (ap (λ r. elim? r (matchesText ms) refusalText) (first-here _ o cs (told-is o is e)))

@@ -1,8 +1,6 @@
 // What the program that prints matches prints, for the bytes of its three files.
 use cutting::cut;
 use labels::Label;
-use leaves::is_leaf;
-use leaves::leaf_count;
 use matching::match_twig;
 use name_files::check_names;
 use name_files::read_names;
@@ -12,10 +10,12 @@ use refusals::Listing;
 use refusals::Refusal;
 use refusals::Verdict;
 use refusals::refuse;
-use store_checks::store_check;
+use store_checks::store_verdict;
 use texts::put_matches;
 use texts::put_refusal;
 use twig_checks::check_twig;
+use twig_leaves::is_leaf;
+use twig_leaves::leaf_count;
 use twigs::node_at;
 use twigs::node_count;
 ghost use mathlib.Core.Path.{_≡_};
@@ -25,31 +25,29 @@ ghost use lib.ListN.{length};
 ghost use Rattle.basics.specs.Basics.{over};
 ghost use Rattle.naming.specs.Names.{cluesOf, tableCheck};
 ghost use Rattle.patterns.specs.Twigs.{twigCheck};
-ghost use Rattle.embeddings.specs.Matches.{labelsWords};
 ghost use Rattle.storage.specs.Store.{sizeCheck};
-ghost use Rattle.basics.specs.Outputs.{roomCheck};
 ghost use Rattle.match_calls.specs.Matching.{matchesOf};
-ghost use Rattle.printouts.specs.Printing as model;
+ghost use Rattle.printouts.specs.Printing as spec;
 ghost use Rattle.refusals.specs.Answers.{verdictOf};
-ghost use Rattle.printing.specs.Texts.{Prints, told, printedBy, listPrinted, storeMatches, bufferChecks, storeChecks};
-ghost use Rattle.printing.specs.Streams.{Accepted, Cut, Streamed, allLabels};
+ghost use Rattle.printing.specs.Texts.{Prints, refusalTold, printedBy, listPrinted, storeMatches, bufferChecks, storeChecks};
+ghost use Rattle.printing.specs.Streams.{StoreAccepted, StreamsAnswered, InputAccepted};
 
 // The most bytes of a store's file, and of each buffer.
 pub const MAX_BYTES: usize = 64000;
 // The bytes of a word, in a file.
 const WORD_BYTES: usize = 2;
-// In a file the low byte of a word stands first, ..
+// Where the low byte of a word stands in a file: first.
 const LOW: usize = 0;
-// .. and the high one behind it.
+// Where the high byte of a word stands in a file: behind the low one.
 const HIGH: usize = 1;
-// The values of a byte.
+// How many values a byte has.
 const BYTE_VALUES: u16 = 256;
 // A text that holds whatever is printed: 2,000 labels and a count.
 pub const TEXT_BYTES: usize = 180064;
 
 // The check of a store's file by its length, 18.
 fn check_file(len: usize) -> Verdict
-    ensures { λ r. ⌜ r ≡ verdictOf (model.storeFileCheck len) ⌝ }
+    ensures { λ r. ⌜ r ≡ verdictOf (spec.storeFileCheck len) ⌝ }
 {
     if len == 0 {
         return refuse(Refusal::STORE_SIZE, 0);
@@ -66,7 +64,7 @@ fn check_file(len: usize) -> Verdict
 // The words of a file, little-endian.
 fn read_words(bytes: &[u8], words: &mut [u16])
     requires { ⌜ length (now bytes) ≤ 2 * length (now words) ⌝ }
-    ensures { λ u. ⌜ now (words .exit) ≡ over (model.fileWords (now (bytes .entry))) (now (words .entry)) ⌝ }
+    ensures { λ u. ⌜ now (words .exit) ≡ over (spec.fileWords (now (bytes .entry))) (now (words .entry)) ⌝ }
 {
     let n = bytes.len() / WORD_BYTES;
     let mut i: usize = 0;
@@ -77,7 +75,8 @@ fn read_words(bytes: &[u8], words: &mut [u16])
     }
 }
 
-// The streams of the leaves, cut one after the other into a buffer: how many labels they have in all, 17 if they do not fit.
+// The streams of the leaves, cut one after the other into a buffer: how many labels they have in all, or 17 where they
+// do not fit.
 fn cut_streams(
     table: Table,
     store: &[u16],
@@ -86,8 +85,8 @@ fn cut_streams(
     counts: &mut [usize],
     buffer: &mut [u16],
 ) -> Listing
-    requires { ⌜ Accepted table (now store) count × (twigCheck (now twig) ≡ none) × (8 ≤ length (now counts)) ⌝ }
-    ensures { λ r. ⌜ (r .verdict ≡ verdictOf (roomCheck (labelsWords (allLabels (now (store .entry)) count (now (twig .entry)))) (now (buffer .entry)))) × (r .verdict ≡ Verdict.Passed → Cut (now (store .entry)) count (now (twig .entry)) (r .count) (now (counts .entry)) (now (counts .exit)) (now (buffer .entry)) (now (buffer .exit))) ⌝ }
+    requires { ⌜ StoreAccepted table (now store) count × (twigCheck (now twig) ≡ none) × (8 ≤ length (now counts)) ⌝ }
+    ensures { λ r. ⌜ StreamsAnswered (now (store .entry)) count (now (twig .entry)) r (now (counts .entry)) (now (counts .exit)) (now (buffer .entry)) (now (buffer .exit)) ⌝ }
 {
     let n = node_count(twig);
     let mut leaves: usize = 0;
@@ -119,10 +118,10 @@ fn cut_streams(
     }
 }
 
-// A refusal's line.
+// A refusal's line, printed.
 fn print_refusal(refusal: Refusal, text: &mut [u8]) -> usize
     requires { ⌜ 180064 ≤ length (now text) ⌝ }
-    ensures { λ n. ⌜ Prints (model.refusalText (told refusal)) n (now (text .exit)) (now (text .entry)) ⌝ }
+    ensures { λ n. ⌜ Prints (spec.refusalText (refusalTold refusal)) n (now (text .exit)) (now (text .entry)) ⌝ }
 {
     put_refusal(refusal.number, refusal.place, text)
 }
@@ -136,7 +135,7 @@ fn print_streams(
     buffer: &[u16],
     text: &mut [u8],
 ) -> usize
-    requires { ⌜ Streamed table root (now twig) (now counts) (now buffer) × (180064 ≤ length (now text)) ⌝ }
+    requires { ⌜ InputAccepted table root (now twig) (now counts) (now buffer) × (180064 ≤ length (now text)) ⌝ }
     ensures { λ n. ⌜ Prints (listPrinted (matchesOf (cluesOf table) root (now (twig .entry)) (now (counts .entry)) (now (buffer .entry)))) n (now (text .exit)) (now (text .entry)) ⌝ }
 {
     let mut out = [0u16; 32000];
@@ -150,7 +149,7 @@ fn print_streams(
 
 // The matches of a twig in sound records, or the refusal, 17.
 fn print_twig(table: Table, store: &[u16], count: usize, twig: &[u8], text: &mut [u8]) -> usize
-    requires { ⌜ Accepted table (now store) count × (twigCheck (now twig) ≡ none) × (180064 ≤ length (now text)) ⌝ }
+    requires { ⌜ StoreAccepted table (now store) count × (twigCheck (now twig) ≡ none) × (180064 ≤ length (now text)) ⌝ }
     ensures { λ n. ⌜ Prints (printedBy (bufferChecks table (now (store .entry)) count (now (twig .entry))) (storeMatches table (now (store .entry)) count (now (twig .entry)))) n (now (text .exit)) (now (text .entry)) ⌝ }
 {
     let mut counts = [0usize; 8];
@@ -175,7 +174,7 @@ fn print_store(table: Table, store: &[u16], count: usize, twig: &[u8], text: &mu
     requires { ⌜ (tableCheck table ≡ none) × (sizeCheck (length (now store)) count ≡ none) × (180064 ≤ length (now text)) ⌝ }
     ensures { λ n. ⌜ Prints (printedBy (storeChecks table (now (store .entry)) count (now (twig .entry))) (storeMatches table (now (store .entry)) count (now (twig .entry)))) n (now (text .exit)) (now (text .entry)) ⌝ }
 {
-    let checked = store_check(&table, store, count);
+    let checked = store_verdict(&table, store, count);
     if let Verdict::Refused(refusal) = checked {
         return print_refusal(refusal, text);
     }
@@ -186,10 +185,11 @@ fn print_store(table: Table, store: &[u16], count: usize, twig: &[u8], text: &mu
     print_twig(table, store, count, twig, text)
 }
 
-// What is printed: the matches of a twig in a store under a child-name file, or one line for the refusal: 1 to 3, 18, 19, 4 to 8, 17.
+// What is printed: the matches of a twig in a store under a child-name file, or one line for the refusal: 1 to 3, 18,
+// 19, 4 to 8, 17.
 pub fn print_matches(names: &[u8], store: &[u8], twig: &[u8], text: &mut [u8]) -> usize
     requires { ⌜ 180064 ≤ length (now text) ⌝ }
-    ensures { λ n. ⌜ (n ≡ length (model.printed (now (names .entry)) (now (store .entry)) (now (twig .entry)))) × (now (text .exit) ≡ over (model.printed (now (names .entry)) (now (store .entry)) (now (twig .entry))) (now (text .entry))) ⌝ }
+    ensures { λ n. ⌜ (n ≡ length (spec.printed (now (names .entry)) (now (store .entry)) (now (twig .entry)))) × (now (text .exit) ≡ over (spec.printed (now (names .entry)) (now (store .entry)) (now (twig .entry))) (now (text .entry))) ⌝ }
 {
     let checked = check_names(names);
     if let Verdict::Refused(refusal) = checked {

@@ -4,7 +4,7 @@ use Rattle.printouts.specs.Examples.{wordBytes, garageStore, garageText}
 use Rattle.printouts.specs.RefusalChecks.{printRefusals}
 use Rattle.cut_calls.proofs.Computing.{computing as below}
 
--- `unfolding computing` opens them all
+-- `unfolding computing` opens every definition named here
 unfoldable pub computing : Unit {0}
 unfolding below text digits decimal joinedBy labelText matchLine matchesText refusalText fileWords storeFileCheck fileCount fileElements fileMatches
     bufferCheck printRefusal printed wordBytes garageStore garageText printRefusals

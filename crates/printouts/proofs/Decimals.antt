@@ -1,4 +1,4 @@
--- Numbers and labels in decimal: what is printed reads back, so that no two are printed alike.
+-- Numbers and labels in decimal: what is printed reads back, so that no two numbers or labels are printed alike.
 use mathlib.Core.Path.{_≡_, refl, sym, ap, _∙_}
 use mathlib.Core.Logic.{⊎-elim}
 use mathlib.Core.Bool.{false, cond}
@@ -27,7 +27,8 @@ value-append a (d ∷ s) t = value-append (a * 10 + (d - 48)) s t
 module _ (P : ℕ → List ℕ → Type 0)
     (one : (n : ℕ) → n < 10 → P n ((48 + n) ∷ []))
     (more : (n : ℕ) (s : List ℕ) → 10 ≤ n → P (n / 10) s → P n (s ++ ((48 + n % 10) ∷ []))) where
-  -- what holds of a single digit, and of a number's digits where it holds of its tenth's, holds with fuel above the number
+  -- What holds of a single digit, and of a number's digits where it holds of those of a tenth of the number,
+  -- holds with fuel above the number.
   digits-by : (fuel n : ℕ) → n < fuel → P n (digits fuel n)
   unfolding digits
   digits-by zero n h = absurd (omega arith)
@@ -37,12 +38,13 @@ module _ (P : ℕ → List ℕ → Type 0)
         | fails p ↦ more n (digits fuel (n / 10)) (omega arith) (digits-by fuel (n / 10) (omega arith))
       ]
 
-  -- so it holds of every number in decimal
+  -- What holds of a single digit, and of a number's digits where it holds of those of a tenth of the number,
+  -- holds of every number in decimal.
   decimal-by : (n : ℕ) → P n (decimal n)
   unfolding decimal
   decimal-by n = digits-by (suc n) n (omega arith)
 
--- digits stand for the number, with any fuel above it
+-- the digits of a number stand for the number, with any fuel above it
 pub digits-value : (fuel n : ℕ) → n < fuel → valueOf 0 (digits fuel n) ≡ n
 unfolding valueOf
 digits-value = digits-by (λ n s. valueOf 0 s ≡ n)
@@ -70,7 +72,7 @@ record Begins (n : ℕ) (s : List ℕ) : Type 0 where
   digit : 48 ≤ getD s 0 0
   leading : 0 < n → 48 < getD s 0 0
 
--- a number in decimal does
+-- a number in decimal begins with a digit, which is 0 for no number but 0
 begins : (n : ℕ) → Begins n (decimal n)
 begins = decimal-by Begins
     (λ n h. record { long = omega arith; digit = omega arith; leading = λ p. omega arith })
@@ -116,7 +118,8 @@ components-decimal : (x : ℕ) (t : List ℕ) → componentsOf 0 (decimal x ++ t
 components-decimal x t =
     components-digits 0 (decimal x) t (λ d m. decimal-digits x d m .0) ∙ ap (λ a. componentsOf a t) (decimal-value x)
 
--- the text of a label below the root is its first component in decimal and a text that the other components are read from
+-- The text of a label below the root is its first component in decimal
+-- and a text from which the other components are read.
 label-parts : (x : ℕ) (l : Label) → (rest : List ℕ) × (labelText (x ∷ l) ≡ decimal x ++ rest) × ((a : ℕ) → componentsOf a rest ≡ a ∷ l)
 unfolding labelText joinedBy text componentsOf
 label-parts x [] = ([], sym (append-nil (decimal x)), λ a. refl)
@@ -124,7 +127,7 @@ label-parts x (y ∷ l) =
     let (rest, e, f) = label-parts y l in
     (46 ∷ labelText (y ∷ l), refl, λ a. ap (λ m. a ∷ m) (ap (componentsOf 0) e ∙ components-decimal y rest ∙ f y))
 
--- a printed label reads back
+-- the text of a label reads back as the label
 pub label-text-read : (l : Label) → labelRead (labelText l) ≡ l
 unfolding labelRead labelText text
 label-text-read [] = refl

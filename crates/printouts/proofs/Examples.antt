@@ -6,7 +6,7 @@ use Rattle.printouts.specs.Printing.{printed}
 use Rattle.printouts.specs.Examples.{garageStore, garageText}
 use Rattle.printouts.proofs.Computing.{computing}
 
--- the example is printed to the letter
+-- the printed example is printed to the letter
 pub printed-example : printed benchFile garageStore garageTwig ≡ garageText
 unfolding computing
 printed-example = refl

@@ -1,4 +1,4 @@
--- The files of the program that prints: their lengths, and what an accepted one holds.
+-- The files of the program that prints: their lengths, and what an accepted file holds.
 use mathlib.Core.Path.{_≡_, refl}
 use mathlib.Core.Logic.{_↔_, Iff·trans}
 use mathlib.Core.Bool.{_&&_}
@@ -19,7 +19,7 @@ use Rattle.basics.proofs.Tests.{and-facts, eqb-alike}
 use Rattle.basics.proofs.Refusals.{check-iff}
 use Rattle.storage.proofs.Sizes.{size-iff}
 
--- a store's file is accepted by its length exactly if that is not 0, at most 64,000 and a multiple of 40
+-- a store's file is accepted by its length exactly if the length is not 0, at most 64,000 and a multiple of 40
 pub storeFile-iff : (len : ℕ) → storeFileCheck len ≡ none ↔ StoreLength len
 unfolding storeFileCheck
 storeFile-iff len = Iff·trans
@@ -46,7 +46,7 @@ unfolding fileWords wordBytes
 fileWords-wordBytes [] = refl
 fileWords-wordBytes (w ∷ ws) = let e : w % 256 + 256 * (w / 256) ≡ w = omega arith in rw (e, fileWords-wordBytes ws)
 
--- a store's file that is accepted by its length gives a slice and a count that are
+-- a store's file whose length is accepted gives a slice's length and a count that are accepted
 pub storeFile-sized : (store : List ℕ) → storeFileCheck (length store) ≡ none → sizeCheck (length (fileWords store)) (fileCount store) ≡ none
 unfolding fileCount
 storeFile-sized store e =

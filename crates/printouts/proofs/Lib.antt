@@ -2,7 +2,7 @@
 pub mod Decimals
 pub mod FileStores
 pub mod Printable
--- Examples.
+-- Examples that the checker works through.
 pub mod Computing
 pub mod Examples
 pub mod RefusalChecks

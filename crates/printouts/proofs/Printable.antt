@@ -1,4 +1,5 @@
--- The program's checks by the facts of its three files: what it prints where all hold, and by which refusal it refuses where one fails.
+-- The program's checks by the facts of its three files: what it prints where all hold,
+-- and by which refusal it refuses where one fails.
 use mathlib.Core.Path.{_≡_, refl, sym, ap, subst, _∙_}
 use mathlib.Core.Logic.{_↔_, ⊎-elim, by-cases}
 use mathlib.Core.Bool.{Bool, true, false}
@@ -30,7 +31,7 @@ use Rattle.cut_calls.proofs.StreamWords.{for-stream, counted}
 use Rattle.cut_calls.proofs.AskedLabels.{streams-asked}
 use Rattle.printouts.proofs.FileStores.{storeFile-iff, storeFile-sized, buffer-iff}
 
--- The streams of some records, of which a leaf has a name and an inner record none.
+-- The streams of some nodes, of which a leaf has a name and an inner node none.
 module _ (s : ℕ → List Label) (short : (want : ℕ) (l : Label) → l ∈ s want → length l ≤ maxDepth) where
   -- the labels of all streams
   abbrev labelsOf : List (Option ℕ) → List Label
@@ -80,7 +81,7 @@ module _ (names store twig : List ℕ) (sized : StoreLength (length store)) (sou
   unfolding fileElements
   elements-sound = store-elements (fileClues names) (fileWords store) _ (storeFile-sized store (storeFile-iff (length store) .1 sized)) sound
 
-  -- the labels that a name asks for are good
+  -- the labels of the elements that a name asks for are good
   stream-labels : (want : ℕ) (l : Label) → l ∈ stream want (fileElements store) → GoodLabel l
   stream-labels want = for-stream GoodLabel want (fileElements store) (λ e m a. elements-sound .labelled e m)
 
@@ -88,12 +89,12 @@ module _ (names store twig : List ℕ) (sized : StoreLength (length store)) (sou
   streams-labelled : (t : Twig) (i : ℕ) (l : Label) → l ∈ getD (streams t (fileElements store)) i [] → GoodLabel l
   streams-labelled t i l m = let (e, s, a, f) = streams-asked t (fileElements store) i l .0 m .1 in subst GoodLabel f (elements-sound .labelled e s)
 
-  -- the bytes of all streams
+  -- the streams of the twig take as many bytes as the facts say
   stream-bytes : 2 * length (labelsWords (joined (streams (readTwig twig) (fileElements store)))) ≡ streamBytes store twig
   unfolding streams streamBytes
   stream-bytes = ap (λ n. 2 * n) (all-words (λ want. stream want (fileElements store)) (λ want l m. stream-labels want l m .shallow) (wanted (readTwig twig)))
 
-  -- the bytes of all matches
+  -- the matches of the twig take as many bytes as the facts say
   match-bytes : twigCheck twig ≡ none → 2 * length (matchWords (fileMatches (fileClues names) store twig)) ≡ matchBytes names store twig
   unfolding fileMatches fullList matchBytes
   match-bytes asked =
@@ -110,7 +111,7 @@ by-first : {X : Type 0} (o : Option Refusal) (cs : List (Option Refusal)) (r : R
 by-first o cs r e now later = ⊎-elim now (λ h. later (h .0) (h .1)) (first-some o cs r e)
 
 module _ (names store twig : List ℕ) where
-  -- where no check refuses all facts hold
+  -- where no check of the program refuses, all facts hold
   all-hold : printRefusal names store twig ≡ none → Printable names store twig
   unfolding printRefusal
   all-hold e =
@@ -129,7 +130,7 @@ module _ (names store twig : List ℕ) where
         matchRoom = omega (arith, buffer-iff _ .0 (first-none _ _ e₅ .0), match-bytes names store twig sized sound asked);
       }
 
-  -- where all facts hold no check refuses
+  -- where all facts hold, no check of the program refuses
   none-refuses : Printable names store twig → printRefusal names store twig ≡ none
   unfolding printRefusal
   none-refuses p =
@@ -141,7 +142,7 @@ module _ (names store twig : List ℕ) where
       (last-passed _ (buffer-iff _ .1 (omega (arith, p .matchRoom, match-bytes names store twig (p .sized) (p .sound) (p .asked)))))))))
 
   module _ (r : Refusal) where
-    -- a refusal is that of the first fact that fails
+    -- a refusal of the program is that of the first fact that fails
     fact-fails : printRefusal names store twig ≡ some r → Unprintable names store twig r
     unfolding printRefusal
     fact-fails e =
@@ -156,7 +157,7 @@ module _ (names store twig : List ℕ) where
         let (n, f) = buffer-refuses _ _ r matched .0 (sym (first-last _) ∙ e₅) in
         longMatches named sized sound asked (omega (arith, buffer-iff _ .0 room)) n f)))))
 
-    -- where a fact fails, all before it holding, its refusal is given
+    -- where a fact fails and all before it hold, the program gives that fact's refusal
     first-refuses : Unprintable names store twig r → printRefusal names store twig ≡ some r
     unfolding printRefusal
     first-refuses (badNames e) = first-here r _ _ e
@@ -172,7 +173,7 @@ module _ (names store twig : List ℕ) where
         first-rest _ _ (buffer-iff _ .1 (omega (arith, stream-bytes names store twig sized sound))) ∙
         first-here r _ _ (buffer-refuses _ _ r (match-bytes names store twig sized sound asked) .1 (n, f))
 
-  -- what the program prints
+  -- the program prints what the facts of its three files say
   pub print-holds : PrintHolds names store twig
   unfolding printed
   print-holds = record {

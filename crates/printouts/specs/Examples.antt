@@ -5,12 +5,12 @@ use Rattle.storage.specs.Store.{storeWords}
 use Rattle.storage.specs.Examples.{element}
 use Rattle.printouts.specs.Printing.{text}
 
--- words in a file, little-endian
+-- the bytes of words in a file, little-endian
 unfoldable pub wordBytes : List ℕ → List ℕ
 wordBytes [] = []
 wordBytes (w ∷ ws) = w % 256 ∷ w / 256 ∷ wordBytes ws
 
--- its store: next numbers each one above the last child's component or 0
+-- the store of the printed example: each next number is one above the last child's component, or 0
 unfoldable pub garageStore : List ℕ
 garageStore =
     wordBytes (storeWords (
@@ -24,6 +24,6 @@ garageStore =
     ∷ element (2 ∷ []) 1 0
     ∷ []))
 
--- what is printed
+-- the text of the printed example
 unfoldable pub garageText : List ℕ
 garageText = text "1 1.0.1 1.0.2\n1 1.0.1 1.0.4.0\n1 1.0.4 1.0.2\n1 1.0.4 1.0.4.0\n4\n"

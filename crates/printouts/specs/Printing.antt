@@ -22,7 +22,7 @@ unfoldable pub text : String → List ℕ
 text nil = []
 text (c then s) = code c ∷ text s
 
--- the byte of the digit 0
+-- the byte that prints the digit 0
 abbrev pub zeroDigit : ℕ
 zeroDigit = 48
 
@@ -35,40 +35,40 @@ digits (suc fuel) n = let longer = digits fuel (n / 10) ++ ((zeroDigit + n % 10)
 unfoldable pub decimal : ℕ → List ℕ
 decimal n = digits (suc n) n
 
--- texts joined by another
+-- texts joined by another text
 unfoldable pub joinedBy : List ℕ → List (List ℕ) → List ℕ
 joinedBy by [] = []
 joinedBy by (t ∷ []) = t
 joinedBy by (t ∷ u ∷ ts) = t ++ (by ++ joinedBy by (u ∷ ts))
 
--- a label: components joined by dots, the root as a single dot
+-- the text of a label: components joined by dots, the root as a single dot
 unfoldable pub labelText : Label → List ℕ
 labelText [] = text "."
 labelText (x ∷ l) = joinedBy (text ".") (map decimal (x ∷ l))
 
--- a line is a match, one label per twig record
+-- the line of a match: one label for each node of the twig
 unfoldable pub matchLine : Match → List ℕ
 matchLine m = joinedBy (text " ") (map labelText m) ++ text "\n"
 
--- the matches, and the count as the last line
+-- the text of matches: a line for each, and the count as the last line
 unfoldable pub matchesText : List Match → List ℕ
 matchesText ms = joined (map matchLine ms) ++ (decimal (length ms) ++ text "\n")
 
--- one line, as "refused 19 at 3"
+-- the line of a refusal, as "refused 19 at 3"
 unfoldable pub refusalText : Refusal → List ℕ
 refusalText r = text "refused " ++ (decimal (r .number) ++ (text " at " ++ (decimal (r .place) ++ text "\n")))
 
--- in a file words are little-endian
+-- the words of a file, little-endian
 unfoldable pub fileWords : List ℕ → List ℕ
 fileWords [] = []
 fileWords (a ∷ []) = []
 fileWords (a ∷ b ∷ bytes) = (a + 256 * b) ∷ fileWords bytes
 
--- the check of a store's file by its length, 18: also a length not a multiple of 40, or over 64,000 bytes
+-- the check of a store's file by its length, which refuses by 18: a multiple of 40, not 0, at most 64,000 bytes
 unfoldable pub storeFileCheck : ℕ → Option Refusal
 storeFileCheck len = check (ltb 0 len && leb len maxBytes && eqb (len % (2 * recordSize)) 0) storeSize 0
 
--- the records of a store's file: 40 bytes each
+-- the number of records of a store's file, 40 bytes each
 unfoldable pub fileCount : List ℕ → ℕ
 fileCount store = length store / (2 * recordSize)
 
@@ -81,11 +81,11 @@ unfoldable pub fileMatches : Clues → List ℕ → List ℕ → List Match
 fileMatches cl store twig =
     fullList cl (rootOf (fileWords store)) (readTwig twig) (fileElements store)
 
--- the check of a buffer of 64,000 bytes, 17
+-- the check that words fit a buffer of 64,000 bytes, which refuses by 17
 unfoldable pub bufferCheck : List ℕ → Option Refusal
 bufferCheck ws = check (leb (2 * length ws) maxBytes) shortOutput 0
 
--- the checks: 1 to 3, 18, 19, 4 to 8, 17 for the streams, 17 for the matches
+-- the program's checks, in this order: 1 to 3, 18, 19, 4 to 8, 17 for the streams, 17 for the matches
 unfoldable pub printRefusal : List ℕ → List ℕ → List ℕ → Option Refusal
 printRefusal names store twig =
     let cl = cluesOf (readNames names .table) in
@@ -98,6 +98,6 @@ printRefusal names store twig =
     ∷ bufferCheck (matchWords (fileMatches cl store twig))
     ∷ [])
 
--- what the program prints
+-- what the program prints: the matches, or the line of the refusal
 unfoldable pub printed : List ℕ → List ℕ → List ℕ → List ℕ
 printed names store twig = elim? (printRefusal names store twig) (matchesText (fileMatches (cluesOf (readNames names .table)) store twig)) refusalText

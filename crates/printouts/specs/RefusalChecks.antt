@@ -6,7 +6,7 @@ use Rattle.basics.specs.Examples.{Check, is}
 use Rattle.naming.specs.Examples.{benchFile}
 use Rattle.printouts.specs.Examples.{garageStore}
 
--- the program: 1 to 3, 18, 19, 4 to 8, 17
+-- the refusals of the program, by 1 to 3, 18, 19, 4 to 8 and 17
 unfoldable pub printRefusals : List Check
 printRefusals =
     is (printed (0 ∷ []) [] []) (text "refused 1 at 0\n")

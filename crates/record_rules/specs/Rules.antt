@@ -13,11 +13,11 @@ use Rattle.labelling.specs.Labels.{labelOf, before, shared}
 use Rattle.storage.specs.Store.{Element, Rule, readElement, test, laidOut, leads, closed, orderRule, parentRule, nameRule, lastRule, nextRule}
 use Rattle.records.specs.Records.{recordAt}
 
--- a depth is at most 15, and 0 for record 0 only
+-- the test of a depth: at most 15, and 0 for record 0 only
 unfoldable pub depthFits : ℕ → ℕ → Bool
 depthFits r depth = leb depth maxDepth && cond (eqb r 0) (eqb depth 0) (ltb 0 depth)
 
--- a next number is 0 if the clue, of n names, is empty or the depth is 15
+-- the test of a next number: 0 if the clue, of n names, is empty or the depth is 15
 unfoldable pub closedBy : ℕ → ℕ → ℕ → Bool
 closedBy n depth next = not (eqb n 0 || eqb depth maxDepth) || eqb next 0
 
@@ -25,7 +25,8 @@ closedBy n depth next = not (eqb n 0 || eqb depth maxDepth) || eqb next 0
 unfoldable pub brokenRoot : Clues → Element → Option Rule
 brokenRoot cl e = test (isName (e .name)) nameRule (test (closed cl e) nextRule none)
 
--- the first rule behind its layout that a later record breaks, after the previous record: its parent, if it stands earlier, is known from that one
+-- the first rule behind its layout that a later record breaks, after the previous record;
+-- the parent, if it stands earlier, is known from the previous record
 unfoldable pub brokenBelow : Clues → Element → Element → Element → Option Rule
 brokenBelow cl previous parent e =
     test (before (previous .label) (e .label)) orderRule
@@ -33,7 +34,8 @@ brokenBelow cl previous parent e =
     (test (leads (cl (parent .name)) (last (e .label)) (e .name)) nameRule
     (test (ltb (last (e .label)) (parent .next)) lastRule (test (closed cl e) nextRule none))))
 
--- the first rule behind its layout that record r of a slice breaks, where it stands below the record with the number `parent`
+-- the first rule behind its layout that record r of a slice breaks,
+-- where it stands below the record with the number `parent`
 unfoldable pub brokenAt : Clues → List ℕ → ℕ → ℕ → Option Rule
 brokenAt cl ws zero parent = brokenRoot cl (readElement (recordAt zero ws))
 brokenAt cl ws (suc r) parent = brokenBelow cl (readElement (recordAt r ws)) (readElement (recordAt parent ws)) (readElement (recordAt (suc r) ws))

@@ -16,7 +16,7 @@ record-behind r ws =
     let e : recordSize + r * recordSize ≡ suc r * recordSize = omega arith in
     ap (take recordSize) (drop-drop (r * recordSize) recordSize ws ∙ ap (λ n. drop n ws) e)
 
--- record 0 is the first
+-- the first twenty words are record 0
 pub record-first : (ws : List ℕ) → take recordSize ws ≡ recordAt 0 ws
 unfolding recordAt
 record-first ws = refl

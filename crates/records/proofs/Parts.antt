@@ -11,24 +11,25 @@ use Rattle.labelling.specs.Labels.{labelOf}
 use Rattle.labelling.proofs.LabelWords.{labelOf-take}
 use Rattle.records.specs.Records.{recordAt}
 
--- word i of record r
+-- word i of record r stands i words behind the record's start
 pub record-word : (ws : List ℕ) (r i : ℕ) → i < recordSize → getD (recordAt r ws) i 0 ≡ getD ws (r * recordSize + i) 0
 unfolding recordAt
 record-word ws r i h = getD-take recordSize (drop (r * recordSize) ws) i 0 h ∙ getD-drop (r * recordSize) ws i 0
 
--- word 0 of record r
+-- word 0 of record r, its depth, stands at the record's start
 pub record-depth : (ws : List ℕ) (r : ℕ) → getD (recordAt r ws) 0 0 ≡ getD ws (r * recordSize) 0
 record-depth ws r = record-word ws r 0 (omega arith) ∙ ap (λ i. getD ws i 0) (add-zero (r * recordSize))
 
 module _ (ws : List ℕ) (r : ℕ) (low : getD ws (r * recordSize) 0 ≤ maxDepth) where
-  -- the part from one place behind the depth on, as long as the depth
+  -- the part of a record behind its depth that is as long as the depth says
   abbrev part : List ℕ
   part = take (r * recordSize + 1 + getD ws (r * recordSize) 0 - (r * recordSize + 1)) (drop (r * recordSize + 1) ws)
 
+  -- the part behind the depth is as long as the depth says
   size : r * recordSize + 1 + getD ws (r * recordSize) 0 - (r * recordSize + 1) ≡ getD ws (r * recordSize) 0
   size = omega arith
 
-  -- it is the components
+  -- the part behind a record's depth is the components of its label
   pub record-label : part ≡ labelOf (recordAt r ws)
   unfolding recordAt labelOf
   record-label =
@@ -38,6 +39,6 @@ module _ (ws : List ℕ) (r : ℕ) (low : getD ws (r * recordSize) 0 ≤ maxDept
       ap₂ take (size ∙ sym first) (sym (drop-drop 1 (r * recordSize) ws)) ∙ sym (labelOf-take rest shallow) ∙
       ap labelOf (sym (take-take labelSize recordSize rest (omega arith))) ∙ labelOf-take (recordAt r ws) (omega (arith, record-depth ws r))
 
-  -- and has as many as the depth says
+  -- the part behind a record's depth has as many components as the depth says
   pub record-long : r * recordSize + recordSize ≤ length ws → length part ≡ getD ws (r * recordSize) 0
   record-long room = rw size (length-take-le (getD ws (r * recordSize) 0) (drop (r * recordSize + 1) ws) (omega (arith, length-drop (r * recordSize + 1) ws)))

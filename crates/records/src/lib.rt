@@ -6,7 +6,7 @@ ghost use mathlib.Core.Path.{_≡_};
 ghost use Prim.Native.Nat.{_+_, _*_, _≤_};
 ghost use lib.ListN.{length, getD};
 ghost use Rattle.labelling.specs.Labels.{labelOf};
-ghost use Rattle.storage.specs.Store as model;
+ghost use Rattle.storage.specs.Store as spec;
 ghost use Rattle.store_calls.specs.Updates.{spaceCheck};
 ghost use Rattle.refusals.specs.Answers.{verdictOf};
 ghost use Rattle.records.specs.Records.{recordAt};
@@ -18,27 +18,27 @@ pub struct Store {
 }
 
 impl Store {
-    // The most elements.
-    pub const MAX_ELEMENTS: usize = 4096;
-    // The words of a record: the label's sixteen, ..
+    // The most elements that a store may have.
+    pub const MAX_RECORDS: usize = 4096;
+    // How many words a record has: the sixteen of its label, and four more.
     pub const RECORD_WORDS: usize = 20;
-    // .. the name, ..
+    // Where the name of a record stands.
     pub const NAME: usize = 16;
-    // .. the next number f, ..
+    // Where the next number f of a record stands.
     pub const NEXT: usize = 17;
-    // .. and two payload words.
+    // Where the two payload words of a record stand.
     pub const PAYLOAD: usize = 18;
 
-    // A slice's length is a multiple of 20, and not 0.
+    // Whether a slice may have this length: a multiple of 20, and not 0.
     pub fn is_slice(words: usize) -> bool
-        ensures { λ r. ⌜ r ≡ model.isSlice words ⌝ }
+        ensures { λ r. ⌜ r ≡ spec.isSlice words ⌝ }
     {
         words % Store::RECORD_WORDS == 0 && 0 < words
     }
 
-    // The check of sizes, 18.
+    // The check of sizes: 18.
     pub fn check_size(self) -> Verdict
-        ensures { λ r. ⌜ r ≡ verdictOf (model.sizeCheck (self .words) (self .count)) ⌝ }
+        ensures { λ r. ⌜ r ≡ verdictOf (spec.sizeCheck (self .words) (self .count)) ⌝ }
     {
         let words = self.words;
         let count = self.count;
@@ -51,13 +51,13 @@ impl Store {
         if words / Store::RECORD_WORDS < count {
             return refuse(Refusal::STORE_SIZE, 0);
         }
-        if Store::MAX_ELEMENTS < count {
+        if Store::MAX_RECORDS < count {
             return refuse(Refusal::STORE_SIZE, 0);
         }
         Verdict::Passed
     }
 
-    // The check for a free record, 13.
+    // The check for a free record: 13.
     pub fn check_space(self) -> Verdict
         ensures { λ r. ⌜ r ≡ verdictOf (spaceCheck (self .words) (self .count)) ⌝ }
     {
@@ -66,14 +66,14 @@ impl Store {
         if words / Store::RECORD_WORDS <= count {
             return refuse(Refusal::NO_SPACE, 0);
         }
-        if Store::MAX_ELEMENTS <= count {
+        if Store::MAX_RECORDS <= count {
             return refuse(Refusal::NO_SPACE, 0);
         }
         Verdict::Passed
     }
 }
 
-// The components of record r.
+// The components of the label of record r.
 pub fn label_at(store: &[u16], r: usize) -> &[u16]
     requires { ⌜ (r * 20 + 20 ≤ length (now store)) × (getD (now store) (r * 20) 0 ≤ 15) ⌝ }
     ensures { λ l. ⌜ (now l ≡ labelOf (recordAt r (now (store .entry)))) × (length (now l) ≡ getD (now (store .entry)) (r * 20) 0) ⌝ }

@@ -1,7 +1,7 @@
-// Refusals as data: a number and a place. This is the only code that says which number is what.
+// Refusals as data: a number and a place. No other code says which number stands for what.
 
 ghost use mathlib.Core.Path.{_≡_};
-ghost use Rattle.basics.specs.Refusals as model;
+ghost use Rattle.basics.specs.Refusals as spec;
 ghost use Rattle.refusals.specs.Answers.{verdictOf, refusedBy};
 
 // A refusal of a call. The place is the record or pair from 0, the component from 1, or 0.
@@ -10,7 +10,7 @@ pub struct Refusal {
     pub place: usize,
 }
 
-// What a check answers.
+// What a check answers: it passed, or the refusal.
 pub enum Verdict {
     Passed,
     Refused(Refusal),
@@ -25,23 +25,23 @@ pub struct Listing {
 impl Refusal {
     // The author of the name table: odd length or over 8,192 bytes.
     pub const FILE_LENGTH: u8 = 1;
-    // A name above 63.
+    // A name above 63 in a child-name file.
     pub const NAME_TOO_HIGH: u8 = 2;
-    // A pair that stood before.
+    // A pair of a child-name file that stood before in it.
     pub const PAIR_AGAIN: u8 = 3;
     // The author of a twig: length 0, over 32 or not a multiple of 4.
     pub const TWIG_LENGTH: u8 = 4;
-    // Record 0's parent not 255, another's not below its own number.
+    // The parent of node 0 is not 255, or that of another node is not below its own number.
     pub const TWIG_PARENT: u8 = 5;
-    // An edge neither child nor descendant.
+    // An edge that is neither child nor descendant.
     pub const TWIG_EDGE: u8 = 6;
-    // A name neither 0 to 63 nor 255, also for cutting.
+    // A name asked for that is neither 0 to 63 nor 255, in a twig or for cutting.
     pub const NAME_ASKED: u8 = 7;
-    // A fourth byte not 0.
+    // The fourth byte of a node is not 0.
     pub const TWIG_END: u8 = 8;
     // The tester: no record in use has this label.
     pub const NO_RECORD: u8 = 9;
-    // The name isn't in the parent's clue.
+    // The name is not in the parent's clue.
     pub const NOT_IN_CLUE: u8 = 10;
     // The parent is at depth 15.
     pub const TOO_DEEP: u8 = 11;
@@ -49,7 +49,7 @@ impl Refusal {
     pub const NO_NUMBER: u8 = 12;
     // No free record in the slice, or 4,096 in use.
     pub const NO_SPACE: u8 = 13;
-    // The root can't be deleted.
+    // The root cannot be deleted.
     pub const ROOT_STAYS: u8 = 14;
     // Whoever passes a label: not 16 words, depth over 15, a used component 65,535, an unused one not 0.
     pub const NOT_LABEL: u8 = 15;
@@ -63,7 +63,7 @@ impl Refusal {
     pub const UNSOUND: u8 = 19;
     // Streams: the counts, the buffer's length, or a label that 15, 16, name or order rules out.
     pub const BAD_STREAM: u8 = 20;
-    // Root name above 63.
+    // The name of the root is above 63.
     pub const BAD_ROOT: u8 = 21;
     // A table with an entry 64 to 254, a number after a 255, or a name that stands twice in a row.
     pub const BAD_TABLE: u8 = 22;
@@ -71,7 +71,7 @@ impl Refusal {
 
 // A check refused by a number at a place.
 pub fn refuse(number: u8, place: usize) -> Verdict
-    ensures { λ r. ⌜ r ≡ verdictOf (model.refuse number place) ⌝ }
+    ensures { λ r. ⌜ r ≡ verdictOf (spec.refuse number place) ⌝ }
 {
     Verdict::Refused(Refusal { number, place })
 }

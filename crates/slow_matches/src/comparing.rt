@@ -15,7 +15,7 @@ use crate::tally::SIZE;
 use crate::tally::UNFINISHED;
 use crate::tally::say;
 use crate::trees::ROOT;
-use crate::twig_parts::RECORD_BYTES;
+use crate::twig_parts::NODE_BYTES;
 use crate::twig_parts::wildcard_branches;
 use guards::number;
 use matching::match_twig;
@@ -26,13 +26,13 @@ use refusals::Listing;
 use refusals::Refusal;
 use refusals::Verdict;
 
-// The words of an output with room for 1,250 matches of eight records.
-pub const OUT_WORDS: usize = 160000;
+// The words of an output with room for 1,250 matches of eight nodes.
+const OUT_WORDS: usize = 160000;
 
 // What stands in an output before it is written.
-pub const MARK: u16 = 60001;
+const MARK: u16 = 60001;
 
-// Many matches.
+// A twig with so many matches is counted as one that has many.
 const MANY: usize = 1000;
 
 // The kinds of room take turns. Their number and that of the sizes have no common factor.
@@ -52,7 +52,7 @@ fn less(a: usize, b: usize) -> usize {
 // The room for an answer of some words: one match too little, one word too little, exact, or ample.
 fn room_for(need: usize, twig: &[u8], pair: usize) -> usize {
     match pair % ROOMS {
-        0 => less(need, start(twig.len() / RECORD_BYTES)),
+        0 => less(need, start(twig.len() / NODE_BYTES)),
         1 => less(need, 1),
         2 => need,
         _ => sum(need, MORE),
@@ -125,12 +125,12 @@ fn count_answer(tally: &mut [usize], n: usize, short: bool, good: bool) {
 
 // A pair counted by its twig and its streams.
 pub fn count_twig(tally: &mut [usize], twig: &[u8], empty: usize) {
-    count_if(tally, sum(SIZE, twig.len() / RECORD_BYTES), true);
+    count_if(tally, sum(SIZE, twig.len() / NODE_BYTES), true);
     count_if(tally, BRANCHING, wildcard_branches(twig));
     count_if(tally, EMPTY_STREAM, empty != 0);
 }
 
-// A twig over its streams, with an output that has the mark; whether the slow matcher came to an end.
+// A twig over its streams by the two matchers, compared and counted; whether the slow one came to an end.
 pub fn compare(
     table: &Table,
     twig: &[u8],
@@ -138,10 +138,10 @@ pub fn compare(
     streams: &[u16],
     numbers: &[usize],
     leaves: usize,
-    out: &mut [u16],
     tally: &mut [usize],
 ) -> bool {
-    let walk = slow_matches(twig, store, streams, numbers, out);
+    let mut out = [MARK; OUT_WORDS];
+    let walk = slow_matches(twig, store, streams, numbers, &out);
     if walk.next != OVER {
         count_if(tally, UNFINISHED, true);
         return false;
@@ -149,14 +149,21 @@ pub fn compare(
     let need = start(walk.labels);
     let room = room_for(need, twig, number(tally, PAIRS));
     let counts = front_numbers(numbers, leaves);
-    let listing = match_twig(*table, ROOT, twig, counts, streams, front_mut(out, room));
-    let again = slow_matches(twig, store, streams, numbers, out);
+    let listing = match_twig(
+        *table,
+        ROOT,
+        twig,
+        counts,
+        streams,
+        front_mut(&mut out, room),
+    );
+    let again = slow_matches(twig, store, streams, numbers, &out);
     let short = (room < need) | (OUT_WORDS < need);
     let good = is_right(
         listing,
         answer_due(walk.found, need, short),
         again.shown,
-        out,
+        &out,
     );
     count_answer(tally, walk.found, short, good);
     true

@@ -2,9 +2,9 @@
 use crate::label_words::start;
 use crate::random::roll;
 use crate::slices::sum;
-use crate::twig_parts::MAX_RECORDS;
+use crate::twig_parts::MAX_NODES;
 use crate::twig_parts::NAME;
-use crate::twig_parts::RECORD_BYTES;
+use crate::twig_parts::NODE_BYTES;
 use crate::twig_parts::children;
 use crate::twig_parts::part;
 use cutting::cut;
@@ -19,7 +19,7 @@ use suffixes::behind_mut;
 // The words of the streams of eight leaves, each of 240 labels.
 pub const BUFFER_WORDS: usize = 30720;
 
-// The numbers of a twig's streams: how many labels each has, then how many labels there are before each record and in all.
+// The numbers of a twig's streams: how many labels each has, then how many there are before each node and in all.
 pub const NUMBERS: usize = 17;
 
 pub const BEFORE: usize = 8;
@@ -42,9 +42,17 @@ fn thin(words: &mut [u16], count: usize) -> usize {
     half
 }
 
-// A stream of a name; how many labels it has.
-fn stream(table: &Table, store: &[u16], want: u8, out: &mut [u16], state: &mut u64) -> usize {
+// The stream of a name, cut behind so many labels of a buffer; how many labels it has.
+fn stream(
+    table: &Table,
+    store: &[u16],
+    want: u8,
+    buffer: &mut [u16],
+    labels: usize,
+    state: &mut u64,
+) -> usize {
     let count = store.len() / Store::RECORD_WORDS;
+    let out = behind_mut(buffer, start(labels));
     let listing = cut(*table, store, count, want, out);
     if roll(state, EMPTIED) == 0 {
         return 0;
@@ -62,24 +70,8 @@ pub struct Streams {
     pub labels: usize,
 }
 
-// The stream of record q, if it is a leaf, behind those of the leaves before it.
-fn add_stream(
-    table: &Table,
-    store: &[u16],
-    twig: &[u8],
-    q: usize,
-    buffer: &mut [u16],
-    numbers: &mut [usize],
-    state: &mut u64,
-    s: Streams,
-) -> Streams {
-    if children(twig, q) != 0 {
-        return s;
-    }
-    let at = start(s.labels);
-    let want = part(twig, q, NAME);
-    let n = stream(table, store, want, behind_mut(buffer, at), state);
-    put_number(numbers, s.leaves, n);
+// What is cut with one stream more, which has n labels.
+fn with_stream(s: Streams, n: usize) -> Streams {
     Streams {
         leaves: sum(s.leaves, 1),
         empty: sum(s.empty, (n == 0) as usize),
@@ -87,7 +79,7 @@ fn add_stream(
     }
 }
 
-// The streams of a twig, and their numbers.
+// The streams of a twig's leaves, one behind the other, and their numbers.
 pub fn cut_streams(
     table: &Table,
     store: &[u16],
@@ -96,7 +88,7 @@ pub fn cut_streams(
     numbers: &mut [usize],
     state: &mut u64,
 ) -> Streams {
-    let size = twig.len() / RECORD_BYTES;
+    let size = twig.len() / NODE_BYTES;
     let mut s = Streams {
         leaves: 0,
         empty: 0,
@@ -104,9 +96,15 @@ pub fn cut_streams(
     };
     let mut q: usize = 0;
     while q < size {
-        s = add_stream(table, store, twig, q, buffer, numbers, state, s);
-        put_number(numbers, BEFORE + 1 + q % MAX_RECORDS, s.labels);
+        put_number(numbers, BEFORE + q % MAX_NODES, s.labels);
+        if children(twig, q) == 0 {
+            let want = part(twig, q, NAME);
+            let n = stream(table, store, want, buffer, s.labels, state);
+            put_number(numbers, s.leaves, n);
+            s = with_stream(s, n);
+        }
         q += 1;
     }
+    put_number(numbers, sum(BEFORE, size), s.labels);
     s
 }

@@ -1,6 +1,4 @@
 // Pairs of a store and a twig: made up, compared and counted.
-use crate::comparing::MARK;
-use crate::comparing::OUT_WORDS;
 use crate::comparing::compare;
 use crate::comparing::count_twig;
 use crate::label_words::start;
@@ -15,8 +13,8 @@ use crate::trees::STORE_WORDS;
 use crate::trees::grow;
 use crate::twig_making::MADE_BYTES;
 use crate::twig_making::make_twig;
-use crate::twig_parts::MAX_RECORDS;
-use crate::twig_parts::RECORD_BYTES;
+use crate::twig_parts::MAX_NODES;
+use crate::twig_parts::NODE_BYTES;
 use names::Table;
 use prefixes::front;
 use prefixes::front_bytes;
@@ -35,26 +33,16 @@ const LARGE: usize = 600;
 // The parent of an entry is the deepest of up to so many records.
 const DEEPEST: usize = 3;
 
-// A twig of some records asked of a store.
+// A twig of some nodes asked of a store.
 fn ask(table: &Table, store: &[u16], size: usize, state: &mut u64, tally: &mut [usize]) {
     let mut made = [0u8; MADE_BYTES];
     let mut buffer = [0u16; BUFFER_WORDS];
     let mut numbers = [0usize; NUMBERS];
     make_twig(store, &mut made, size, state);
-    let twig = front_bytes(&made, size % 9 * RECORD_BYTES);
+    let twig = front_bytes(&made, size % 9 * NODE_BYTES);
     let s = cut_streams(table, store, twig, &mut buffer, &mut numbers, state);
     let streams = front(&buffer, start(s.labels));
-    let mut out = [MARK; OUT_WORDS];
-    if compare(
-        table,
-        twig,
-        store,
-        streams,
-        &numbers,
-        s.leaves,
-        &mut out,
-        tally,
-    ) {
+    if compare(table, twig, store, streams, &numbers, s.leaves, tally) {
         count_twig(tally, twig, s.empty);
     }
 }
@@ -73,7 +61,7 @@ pub fn ask_store(i: usize, state: &mut u64, tally: &mut [usize]) {
     let store = front(&words, count % STORE_WORDS * Store::RECORD_WORDS);
     let mut k: usize = 0;
     while k < TWIGS {
-        ask(&t, store, k % MAX_RECORDS + 1, state, tally);
+        ask(&t, store, k % MAX_NODES + 1, state, tally);
         k += 1;
     }
 }

@@ -8,7 +8,7 @@ const MULTIPLIER: u64 = 48271;
 // The first state.
 pub const SEED: u64 = 20050830;
 
-// The next number of the sequence, below n; 0 where n is 0. It is 0 one time in n.
+// The next number of the sequence, below n, and 0 where n is 0. One number in n is 0.
 pub fn roll(state: &mut u64, n: usize) -> usize {
     let next = *state % MODULUS * MULTIPLIER % MODULUS;
     *state = next;

@@ -57,7 +57,7 @@ fn deepest(words: &[u16], count: usize, tries: usize, state: &mut u64) -> usize 
     r
 }
 
-// A name below a name, picked by a number; the filling where there is none.
+// A name below a name, picked by a number; the filler where there is none.
 fn name_below(table: &Table, name: usize, pick: usize) -> u8 {
     match child_of(table, name, (pick % TABLE_SIZE) as u16) {
         Child::Name(n) => n,

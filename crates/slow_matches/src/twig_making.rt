@@ -1,4 +1,4 @@
-// Twigs made up beside a store: each record has a host there, below its parent's where one is found.
+// Twigs made up beside a store: each node has a host there, below its parent's where one is found.
 use crate::label_words::way;
 use crate::random::roll;
 use crate::slices::sum;
@@ -8,24 +8,24 @@ use crate::twig_parts::ANY;
 use crate::twig_parts::CHILD;
 use crate::twig_parts::DESCENDANT;
 use crate::twig_parts::EDGE;
-use crate::twig_parts::MAX_RECORDS;
+use crate::twig_parts::MAX_NODES;
 use crate::twig_parts::NAME;
 use crate::twig_parts::NO_PARENT;
+use crate::twig_parts::NODE_BYTES;
 use crate::twig_parts::PARENT;
-use crate::twig_parts::RECORD_BYTES;
 use guards::byte;
 use guards::put_byte;
 use records::Store;
 
-// The bytes of the largest twig with the hosts of its records behind them, and where these begin.
+// The bytes of the largest twig with the hosts of its nodes behind them, and where the hosts begin.
 pub const MADE_BYTES: usize = 40;
 
 const HOSTS: usize = 32;
 
-// How often a record below another is tried for.
+// How often a host below the parent's is tried for.
 const TRIES: usize = 40;
 
-// The host of record 0 is the root one time in so many.
+// The host of node 0 is the root one time in so many.
 const TIED: usize = 2;
 
 // One name in so many is any.
@@ -34,17 +34,17 @@ const ANY_NAME: usize = 4;
 // One name in so many is made up, and one edge.
 const MADE_UP: usize = 30;
 
-// The names made up are below this one.
+// The names made up are below this number.
 const NAMES: usize = 6;
 
-// Where a record is hung: its parent in the twig, its edge, and its host in the store.
+// Where a node is hung: its parent in the twig, its edge, and its host in the store.
 struct Hook {
     parent: usize,
     edge: u8,
     host: usize,
 }
 
-// Record 0: its host is the root or any element. A child edge ties it to the root.
+// Node 0: its host is the root or any element. A child edge ties it to the root.
 fn top(count: usize, state: &mut u64) -> Hook {
     let mut host: usize = 0;
     if roll(state, TIED) != 0 {
@@ -73,7 +73,7 @@ fn edge_for(labels: usize, state: &mut u64) -> u8 {
     DESCENDANT
 }
 
-// Record q: a parent before it, and a record of the store below the parent's host where one of some tries finds it.
+// Node q: a parent before it, and as host a record of the store below the parent's where one of some tries finds it.
 fn hung(store: &[u16], made: &[u8], q: usize, state: &mut u64) -> Hook {
     let count = store.len() / Store::RECORD_WORDS;
     let mut parent: usize = 0;
@@ -105,25 +105,25 @@ fn asked(store: &[u16], r: usize, state: &mut u64) -> usize {
     record_name(store, r)
 }
 
-// Record q of a twig, made up.
-fn make_record(store: &[u16], made: &mut [u8], q: usize, state: &mut u64) {
+// Node q of a twig, made up.
+fn make_node(store: &[u16], made: &mut [u8], q: usize, state: &mut u64) {
     let h = if q == 0 {
         top(store.len() / Store::RECORD_WORDS, state)
     } else {
         hung(store, made, q, state)
     };
-    let at = q % MAX_RECORDS * RECORD_BYTES;
+    let at = q % MAX_NODES * NODE_BYTES;
     put_byte(made, at + PARENT, (h.parent % 256) as u8);
     put_byte(made, at + EDGE, h.edge);
     put_byte(made, at + NAME, (asked(store, h.host, state) % 256) as u8);
-    put_byte(made, HOSTS + q % MAX_RECORDS, (h.host % 256) as u8);
+    put_byte(made, HOSTS + q % MAX_NODES, (h.host % 256) as u8);
 }
 
 // A twig made up beside a store.
 pub fn make_twig(store: &[u16], made: &mut [u8], size: usize, state: &mut u64) {
     let mut q: usize = 0;
     while q < size {
-        make_record(store, made, q, state);
+        make_node(store, made, q, state);
         q += 1;
     }
 }

@@ -7,7 +7,7 @@ use native.Mathlib.Omega.{arith}
 use Rattle.basics.specs.Basics.{elim?}
 use Rattle.basics.specs.Refusals.{refuse, unsound}
 use Rattle.naming.specs.Names.{Clues}
-use Rattle.storage.specs.Store as model
+use Rattle.storage.specs.Store as spec
 use Rattle.storage.proofs.Faults.{rule-number}
 use Rattle.refusals.specs.Answers.{verdictOf}
 use Rattle.refusals.specs.declared.Verdict.{Verdict}
@@ -22,28 +22,28 @@ use Rattle.soundness.specs.declared.Soundness.the-variants as soundness
 pub numbered : (r : Rule) → Numbered r unsound
 numbered r x e = sym (rule-number x)
 
--- a store that the code says is sound
-said-sound : (o : Option model.Fault) {k : Soundness} → k ≡ soundnessOf o → k ≡ soundness.Sound → o ≡ none
+-- where the code answers that a store is sound, the definition finds no fault
+said-sound : (o : Option spec.Fault) {k : Soundness} → k ≡ soundnessOf o → k ≡ soundness.Sound → o ≡ none
 said-sound none e f = refl
 said-sound (some x) e f = absurd (let z : _≡_ {A = ℕ} 0 1 = cc in omega arith)
 
--- a fault that it names
-said-fault : (o : Option model.Fault) {k : Soundness} {x : Rule} {place : ℕ} → k ≡ soundnessOf o → k ≡ soundness.Broken x place →
-    (f : model.Fault) × (o ≡ some f) × (x ≡ ruleOf (f .rule)) × (place ≡ f .place)
+-- where the code names a fault, the definition finds it
+said-fault : (o : Option spec.Fault) {k : Soundness} {x : Rule} {place : ℕ} → k ≡ soundnessOf o → k ≡ soundness.Broken x place →
+    (f : spec.Fault) × (o ≡ some f) × (x ≡ ruleOf (f .rule)) × (place ≡ f .place)
 said-fault none e f = absurd (let z : _≡_ {A = ℕ} 0 1 = cc in omega arith)
 said-fault (some x) e f = (x, refl, cc, cc)
 
-module _ (cl : Clues) (count : ℕ) (ws : List ℕ) {k : Soundness} (is : k ≡ soundnessOf (model.fault cl [] (model.records count ws))) where
-  -- sound records pass
-  pub records-sound : k ≡ soundness.Sound → verdict.Passed ≡ verdictOf (model.soundCheck cl count ws)
-  unfolding model.soundCheck elim?
-  records-sound e = rw (said-sound (model.fault cl [] (model.records count ws)) is e)
+module _ (cl : Clues) (count : ℕ) (ws : List ℕ) {k : Soundness} (is : k ≡ soundnessOf (spec.fault cl [] (spec.records count ws))) where
+  -- records without a fault pass
+  pub records-sound : k ≡ soundness.Sound → verdict.Passed ≡ verdictOf (spec.soundCheck cl count ws)
+  unfolding spec.soundCheck elim?
+  records-sound e = rw (said-sound (spec.fault cl [] (spec.records count ws)) is e)
 
   -- a fault is refused by its rule's number at its place
   pub records-fault : {x : Rule} {n place : ℕ} {v : Verdict} → k ≡ soundness.Broken x place → Numbered x n → v ≡ verdictOf (refuse n place) →
-      v ≡ verdictOf (model.soundCheck cl count ws)
-  unfolding model.soundCheck elim?
+      v ≡ verdictOf (spec.soundCheck cl count ws)
+  unfolding spec.soundCheck elim?
   records-fault e number f =
-      let (fault, at, rule, place) = said-fault (model.fault cl [] (model.records count ws)) is e in
+      let (fault, at, rule, place) = said-fault (spec.fault cl [] (spec.records count ws)) is e in
       f ∙ ap₂ (λ (n p : ℕ). verdictOf (refuse n p)) (number (fault .rule) rule) place ∙
-      sym (ap (λ o. verdictOf (elim? o none (λ f. refuse (model.numberOf (f .rule)) (f .place)))) at)
+      sym (ap (λ o. verdictOf (elim? o none (λ f. refuse (spec.numberOf (f .rule)) (f .place)))) at)

@@ -3,4 +3,5 @@ pub mod Shared
 pub mod Trail
 pub mod Pass
 pub mod Scan
+pub mod Tested
 pub mod Checks

@@ -1,4 +1,4 @@
--- One step of the pass over the records: the rules that it tests are the paper's, and what it keeps holds after the step.
+-- One step of the pass over the records: the rules that it tests are the paper's, and what it keeps holds after it.
 use Prim.Native.Nat.{ℕ, zero, suc, _+_, _*_, _<_, _≤_}
 use mathlib.Core.Path.{_≡_, refl, sym, ap, subst, _∙_}
 use mathlib.Core.Logic.{inl, inr, ⊎-elim, by-cases}
@@ -21,6 +21,7 @@ use Rattle.basics.proofs.Lists.{nowhere, for-cons}
 use Rattle.labelling.proofs.LabelOrder.{before-order, same?}
 use Rattle.labelling.proofs.Kinship.{shared-alike, shared-low}
 use Rattle.storage.proofs.Relaid.{test-none, test-rest, test-passes}
+use Rattle.labels.proofs.Steps.{passed}
 use Rattle.records.specs.Records.{recordAt}
 use Rattle.records.proofs.Parts.{record-depth}
 use Rattle.record_rules.specs.Rules.{Laid, brokenRoot, brokenBelow, brokenAt}
@@ -28,11 +29,7 @@ use Rattle.record_rules.proofs.Depths.{fitting-depth, depth-root, depth-below}
 use Rattle.soundness.proofs.Shared.{component-count}
 use Rattle.soundness.proofs.Trail.{behind, Trail, parent-shared, find-none}
 
--- a test that is true passes
-passed : {b : Bool} → b ≡ true → T b
-passed e = subst T (sym e) tt
-
--- the element with a label at the front is found
+-- an element with the label at the front of the list is found
 find-self : (e : Element) (l : Label) (done : List Element) → e .label ≡ l → find l (e ∷ done) ≡ some e
 unfolding find
 find-self e l done h = go (same (e .label) l) (same? (e .label) l)
@@ -41,7 +38,7 @@ find-self e l done h = go (same (e .label) l) (same? (e .label) l)
     go true k = refl
     go false (fails n) = absurd (n h)
 
--- another is looked for behind it
+-- behind an element with another label the search goes on
 find-skip : (e : Element) (l : Label) (done : List Element) → (e .label ≡ l → ⊥) → find l (e ∷ done) ≡ find l done
 unfolding find
 find-skip e l done h = go (same (e .label) l) (same? (e .label) l)
@@ -50,7 +47,7 @@ find-skip e l done h = go (same (e .label) l) (same? (e .label) l)
     go true (passes k) = absurd (h k)
     go false k = refl
 
--- the rules behind one are looked at only where it is kept
+-- the rules behind a rule are looked at only where that rule is kept
 test-under : (b : Bool) (r : Rule) (o p : Option Rule) → (T b → o ≡ p) → test b r o ≡ test b r p
 unfolding test
 test-under true r o p h = h tt
@@ -69,7 +66,7 @@ module _ (ws : List ℕ) (r : ℕ) (room : r * recordSize + recordSize ≤ lengt
   unfolding readElement
   label-long = component-count ws r (fitting-depth r _ (laid .0)) room
 
-  -- the record of its own label
+  -- behind record r its own label leads to record r
   line-self : (parents : List ℕ) → length parents ≡ 17 → (j : ℕ) → j ≡ length (readElement (recordAt r ws) .label) →
       find (take j (readElement (recordAt r ws) .label)) (behind (suc r) ws) ≡
       some (readElement (recordAt (getD (set parents (getD ws (r * recordSize) 0 + 1) r) (suc j) 0) ws))
@@ -81,9 +78,9 @@ module _ (ws : List ℕ) (r : ℕ) (room : r * recordSize + recordSize ≤ lengt
       ap (λ n. some (readElement (recordAt n ws))) (sym (ap (λ i. getD (set parents (getD ws (r * recordSize) 0 + 1) r) i 0) at ∙
       getD-set-same parents _ r 0 (omega arith)))
 
--- record r after those before it
+-- record r, after those before it
 module _ (cl : Clues) (ws parents : List ℕ) where
-  -- it breaks the rule that the pass finds
+  -- record r breaks the rule that the pass finds
   pub broken-is : (r : ℕ) → Trail ws r parents → r * recordSize + recordSize ≤ length ws → Laid ws r →
       broken cl (behind r ws) (recordAt r ws) ≡ brokenAt cl ws r (getD parents (getD ws (r * recordSize) 0) 0)
   unfolding broken brokenAt brokenRoot brokenBelow behind
@@ -119,7 +116,7 @@ module _ (cl : Clues) (ws parents : List ℕ) where
       below : T (before l m) → elim? (find (above m) (behind (suc r) ws)) (some parentRule) kept ≡ test (eqb (shared l m + 1) (length m)) parentRule (kept parent)
       below t = parent-decides _ (eq? (shared l m + 1) (length m)) (found t) (λ n. find-none l m t n (behind (suc r) ws) (trail .latest)) kept
 
-  -- after a record that breaks no rule, its own record is that of the elements below it
+  -- after a record that breaks no rule, that record is known as the one that elements below it stand below
   pub trail-on : (r : ℕ) → Trail ws r parents → r * recordSize + recordSize ≤ length ws → Laid ws r → length parents ≡ 17 →
       brokenAt cl ws r (getD parents (getD ws (r * recordSize) 0) 0) ≡ none → Trail ws (suc r) (set parents (getD ws (r * recordSize) 0 + 1) r)
   unfolding brokenAt brokenBelow behind

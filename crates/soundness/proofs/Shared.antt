@@ -12,13 +12,13 @@ use Rattle.labelling.specs.Labels.{labelOf, shared}
 use Rattle.labelling.proofs.Kinship.{shared-alike, shared-low, shared-comm}
 use Rattle.records.specs.Records.{recordAt}
 use Rattle.records.proofs.Parts.{record-word, record-depth, record-label, record-long}
-use Rattle.layouts.proofs.Words.{word-used}
+use Rattle.label_words.proofs.Words.{word-used}
 use Rattle.record_rules.specs.Rules.{Laid, sharedBefore}
 use Rattle.record_rules.proofs.Depths.{fitting-depth}
 use Rattle.record_rules.proofs.Shared.{shares-root}
 use Rattle.soundness.proofs.Fits.{Fitting, laid-small}
 
--- component j of record r
+-- component j of record r is word j + 1 of the record
 component-word : (ws : List ℕ) (r j : ℕ) → j < getD ws (r * recordSize) 0 → getD ws (r * recordSize) 0 ≤ maxDepth →
     getD (labelOf (recordAt r ws)) j 0 ≡ getD ws (r * recordSize + suc j) 0
 unfolding labelOf
@@ -32,7 +32,7 @@ pub component-count : (ws : List ℕ) (r : ℕ) → getD ws (r * recordSize) 0 �
     length (labelOf (recordAt r ws)) ≡ getD ws (r * recordSize) 0
 component-count ws r deep room = ap length (sym (record-label ws r deep)) ∙ record-long ws r deep room
 
--- records whose labels ws holds, of a depth of at most 15
+-- the words of a slice that holds records of a depth of at most 15
 module _ (ws : List ℕ) where
   -- what a record shares with the previous one is no longer than its label
   shares-few : (r : ℕ) → getD ws (r * recordSize) 0 ≤ maxDepth → r * recordSize + recordSize ≤ length ws → sharedBefore ws r ≤ getD ws (r * recordSize) 0
@@ -43,11 +43,11 @@ module _ (ws : List ℕ) where
       let m = labelOf (recordAt (suc r) ws) in
       omega (arith, shared-comm l m, shared-low m l, component-count ws (suc r) deep room)
 
-  -- it leaves room for one more among seventeen
-  pub shares-small : (r : ℕ) {s : ℕ} → s ≡ sharedBefore ws r → getD ws (r * recordSize) 0 ≤ maxDepth → r * recordSize + recordSize ≤ length ws → s + 1 < 17
-  shares-small r is deep room = omega (arith, shares-few r deep room)
+  -- behind the components that a record shares with the previous one comes a word with a number below 17
+  pub shares-small : (r count : ℕ) {s : ℕ} → s ≡ sharedBefore ws r → getD ws (r * recordSize) 0 ≤ maxDepth → r < count → count * recordSize ≤ length ws → s + 1 < 17
+  shares-small r count is deep inside room = omega (arith, shares-few r deep (omega arith))
 
-  -- a shared component is the same word in both records
+  -- a component that a record shares with the previous one is the same word in both
   shared-word : (r : ℕ) → getD ws (r * recordSize) 0 ≤ maxDepth → getD ws (suc r * recordSize) 0 ≤ maxDepth → suc r * recordSize + recordSize ≤ length ws →
       (j : ℕ) → j < sharedBefore ws (suc r) → (j < getD ws (r * recordSize) 0) × (getD ws (suc r * recordSize + suc j) 0 ≡ getD ws (r * recordSize + suc j) 0)
   unfolding sharedBefore

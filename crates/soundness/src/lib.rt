@@ -1,11 +1,11 @@
 // Soundness: the first record of a store that breaks a rule, found in one pass.
-use clue_lengths::clue_lens;
-use clue_lengths::lens_slice;
+use clue_lengths::lengths_of;
+use clue_lengths::lengths_slice;
+use label_padding::UNUSED;
+use label_padding::rest_zero;
+use label_words::shared_part;
 use labels::Label;
-use layouts::shared_part;
 use names::Table;
-use padding::UNUSED;
-use padding::rest_zero;
 use record_rules::Check;
 use record_rules::Rule;
 use record_rules::record_rules;
@@ -19,8 +19,8 @@ ghost use mathlib.Core.List.{[]};
 ghost use Prim.Native.Nat.{_+_, _-_, _*_, _≤_};
 ghost use lib.ListN.{length, getD};
 ghost use Rattle.naming.specs.Names.{cluesOf};
-ghost use Rattle.storage.specs.Store as model;
-ghost use Rattle.clue_lengths.specs.Lens.{lensOf};
+ghost use Rattle.storage.specs.Store as spec;
+ghost use Rattle.clue_lengths.specs.Lengths.{lengthsOf};
 ghost use Rattle.refusals.specs.Answers.{verdictOf};
 ghost use Rattle.record_rules.specs.Rules.{sharedBefore, depthFits};
 ghost use Rattle.soundness.specs.Answers.{Numbered, soundnessOf};
@@ -31,7 +31,7 @@ pub enum Soundness {
     Broken(Rule, usize),
 }
 
-// The number that the paper gives a rule.
+// The number by which the paper refuses a record that breaks a rule.
 fn number_of(rule: Rule) -> u8
     ensures { λ r. ⌜ Numbered rule r ⌝ }
 {
@@ -45,7 +45,7 @@ fn number_of(rule: Rule) -> u8
     }
 }
 
-// A depth is at most 15, and 0 for record 0 only.
+// Whether a depth fits its record: at most 15, and 0 for record 0 only.
 fn depth_fits(r: usize, depth: usize) -> bool
     ensures { λ b. ⌜ b ≡ depthFits r depth ⌝ }
 {
@@ -70,12 +70,12 @@ fn shared_before(store: &[u16], r: usize) -> usize
 }
 
 // The first record that breaks a rule, read from the front.
-fn first_fault(table: &Table, lens: &[usize], store: &[u16], count: usize) -> Soundness
-    requires { ⌜ (now lens ≡ lensOf (now table)) × (count * 20 ≤ length (now store)) ⌝ }
-    ensures { λ k. ⌜ k ≡ soundnessOf (model.fault (cluesOf (now (table .entry))) [] (model.records count (now (store .entry)))) ⌝ }
+fn first_fault(table: &Table, lengths: &[usize], store: &[u16], count: usize) -> Soundness
+    requires { ⌜ (now lengths ≡ lengthsOf (now table)) × (count * 20 ≤ length (now store)) ⌝ }
+    ensures { λ k. ⌜ k ≡ soundnessOf (spec.fault (cluesOf (now (table .entry))) [] (spec.records count (now (store .entry)))) ⌝ }
 {
     let mut found = Soundness::Sound;
-    // Read once: a constant array is made anew wherever it is read.
+    // A constant array is made anew wherever it is read, so it is read once.
     let unused = UNUSED;
     // The record that an element of each depth would stand below.
     let mut parents = [0usize; 17];
@@ -87,7 +87,7 @@ fn first_fault(table: &Table, lens: &[usize], store: &[u16], count: usize) -> So
             found = Soundness::Broken(Rule::Layout, r);
             break 'records;
         }
-        // The components shared with the previous record were tested there.
+        // The components shared with the previous record were tested there, so the test begins behind them.
         let s = shared_before(store, r);
         let mut w = s + 1;
         while w <= depth {
@@ -101,7 +101,7 @@ fn first_fault(table: &Table, lens: &[usize], store: &[u16], count: usize) -> So
             found = Soundness::Broken(Rule::Layout, r);
             break 'records;
         }
-        let check = record_rules(table, lens, store, r, s, parents[depth]);
+        let check = record_rules(table, lengths, store, r, s, parents[depth]);
         if let Check::Broken(rule) = check {
             found = Soundness::Broken(rule, r);
             break 'records;
@@ -112,13 +112,13 @@ fn first_fault(table: &Table, lens: &[usize], store: &[u16], count: usize) -> So
     found
 }
 
-// The check of the records in use, 19.
+// The check of the records in use: 19.
 pub fn check_records(table: &Table, store: &[u16], count: usize) -> Verdict
     requires { ⌜ count * 20 ≤ length (now store) ⌝ }
-    ensures { λ v. ⌜ v ≡ verdictOf (model.soundCheck (cluesOf (now (table .entry))) count (now (store .entry))) ⌝ }
+    ensures { λ v. ⌜ v ≡ verdictOf (spec.soundCheck (cluesOf (now (table .entry))) count (now (store .entry))) ⌝ }
 {
-    let lens = clue_lens(table);
-    let found = first_fault(table, lens_slice(&lens), store, count);
+    let lengths = lengths_of(table);
+    let found = first_fault(table, lengths_slice(&lengths), store, count);
     let Soundness::Broken(rule, place) = found else {
         return Verdict::Passed;
     };

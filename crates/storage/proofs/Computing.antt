@@ -3,7 +3,7 @@ use Rattle.storage.specs.Store.{elementWords, storeWords, readElement, r
 use Rattle.storage.specs.Examples.{elementOf, element, deepStore, usedUp, torn, recordChecks}
 use Rattle.labelling.proofs.Computing.{computing as below}
 
--- `unfolding computing` opens them all
+-- `unfolding computing` opens every definition named here
 unfoldable pub computing : Unit {0}
 unfolding below elementWords storeWords readElement rootOf records elements find elementAt isSlice sizeCheck test laidOut leads closed broken fault
     numberOf soundCheck elementOf element deepStore usedUp torn recordChecks

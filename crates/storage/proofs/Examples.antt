@@ -9,7 +9,7 @@ use Rattle.storage.specs.Store.{elementWords, layoutRule, broken}
 use Rattle.storage.specs.Examples.{elementOf, recordChecks}
 use Rattle.storage.proofs.Computing.{computing}
 
--- the definitions give what the paper says
+-- of records and stores the definitions give what the paper says
 pub record-checks : Hold recordChecks
 unfolding computing
 record-checks = refl

@@ -14,7 +14,7 @@ use Rattle.storage.specs.Store.{Element, Rule, readElement, records, bro
 use Rattle.storage.proofs.Sizes.{length-records}
 use Rattle.storage.proofs.Rules.{Keeps, Breaks, broken-none, broken-some}
 
--- what a rule says of record i of some records, after other elements: those before it are the previous one first
+-- what a rule says of record i of some records that come after other elements, which stand the previous one first
 abbrev pub KeepsAt : Clues → List Element → List (List ℕ) → ℕ → Rule → Type 0
 KeepsAt cl done rs i = Keeps cl (reverseAux (map readElement (take i rs)) done) (getD rs i [])
 
@@ -24,7 +24,7 @@ pub record FirstFault (cl : Clues) (done : List Element) (rs : List (List ℕ)) 
   pub earlier : (j : ℕ) → j < i → (q : Rule) → KeepsAt cl done rs j q
   pub breaks : Breaks (KeepsAt cl done rs i) r
 
--- where no record breaks a rule, the first does not, nor do the others after it
+-- where no record breaks a rule, the first does not, and the others after it do not
 pub fault-cons : (cl : Clues) (done : List Element) (r : List ℕ) (rs : List (List ℕ)) → fault cl done (r ∷ rs) ≡ none →
     (broken cl done r ≡ none) × (fault cl (readElement r ∷ done) rs ≡ none)
 unfolding fault elim?
@@ -82,7 +82,7 @@ fault-told cl done (r ∷ rs) f e = go (broken cl done r) refl e (fault-told cl 
           record { inside = omega arith; earlier = λ j l. absurd (omega arith); breaks = broken-some cl done r (f .rule) .0 rule },
         )
 
--- the first record that breaks a rule is named
+-- where a record is the first that breaks a rule, the fault named is that record's
 fault-says : (cl : Clues) (done : List Element) (rs : List (List ℕ)) (i : ℕ) (r : Rule) → FirstFault cl done rs i r →
     fault cl done rs ≡ some (record { place = length done + i; rule = r })
 unfolding fault elim?
@@ -99,7 +99,7 @@ fault-says cl done (x ∷ rs) (suc i) r h =
     } in
     rw (d, broken-none cl done x .1 (h .earlier 0 (omega arith))) (fault-says cl (readElement x ∷ done) rs i r rest)
 
--- a fault is named exactly if its record is the first that breaks a rule, and its rule the first that this one breaks
+-- a fault is named exactly if its record is the first that breaks a rule and its rule the first that this record breaks
 pub fault-iff : (cl : Clues) (rs : List (List ℕ)) (i : ℕ) (r : Rule) → fault cl [] rs ≡ some (record { place = i; rule = r }) ↔ FirstFault cl [] rs i r
 fault-iff cl rs i r = (
   λ e. let (j, place, h) = fault-told cl [] rs (record { place = i; rule = r }) e in let d : i ≡ j = omega arith in rw d h,
@@ -115,7 +115,7 @@ sound-check cl count ws = go (fault cl [] (records count ws))
     go none = (λ e. refl, λ e. refl)
     go (some f) = (λ e. absurd (Option·some-ne-none _ e), λ e. absurd (Option·some-ne-none f e))
 
--- the check passes exactly if every record in use keeps every rule
+-- the check of the records passes exactly if every record in use keeps every rule
 pub sound-iff : (cl : Clues) (count : ℕ) (ws : List ℕ) →
     soundCheck cl count ws ≡ none ↔ ((i : ℕ) → i < count → (q : Rule) → KeepsAt cl [] (records count ws) i q)
 sound-iff cl count ws = Iff·trans (sound-check cl count ws) (Iff·trans (fault-none cl [] (records count ws)) (
@@ -123,7 +123,7 @@ sound-iff cl count ws = Iff·trans (sound-check cl count ws) (Iff·trans (fault-
   λ h i l. h i (omega (arith, length-records count ws)),
 ))
 
--- the check refuses by a fault: at its place, with its rule's number
+-- the check of the records refuses by a fault: at the fault's place, with the number of its rule
 pub sound-refusal : (cl : Clues) (count : ℕ) (ws : List ℕ) (r : Refusal) → soundCheck cl count ws ≡ some r →
     (f : Fault) × (fault cl [] (records count ws) ≡ some f) × (r .number ≡ numberOf (f .rule)) × (r .place ≡ f .place)
 unfolding soundCheck elim?
@@ -136,7 +136,8 @@ sound-refusal cl count ws r e = go (fault cl [] (records count ws)) e
         let h = sym (Option·some-injective _ r e) in
         (f, refl, ap (λ (r : Refusal). r .number) h, ap (λ (r : Refusal). r .place) h)
 
--- the check refuses by a number at a place exactly if the record there is the first that breaks a rule, and the first rule that it breaks has the number
+-- The check of the records refuses by a number at a place exactly if the record there is the first that breaks a rule
+-- and the first rule that it breaks has the number.
 pub sound-refused : (cl : Clues) (count : ℕ) (ws : List ℕ) (n i : ℕ) →
     soundCheck cl count ws ≡ refuse n i ↔ ((r : Rule) × FirstFault cl [] (records count ws) i r × (numberOf r ≡ n))
 unfolding soundCheck elim?
@@ -159,7 +160,7 @@ rule-number nameRule = refl
 rule-number lastRule = refl
 rule-number nextRule = refl
 
--- 19 is given at a place exactly if the record there is the first that breaks a rule
+-- the refusal 19 is given at a place exactly if the record there is the first that breaks a rule
 pub nineteen-iff : (cl : Clues) (count : ℕ) (ws : List ℕ) (i : ℕ) →
     soundCheck cl count ws ≡ refuse unsound i ↔ ((r : Rule) × FirstFault cl [] (records count ws) i r)
 nineteen-iff cl count ws i = (
@@ -167,6 +168,6 @@ nineteen-iff cl count ws i = (
   λ h. sound-refused cl count ws unsound i .1 (h .0, h .1, rule-number (h .0)),
 )
 
--- so the check refuses by 19 only
+-- the check of the records refuses by no other number than 19
 pub unsound-number : (cl : Clues) (count : ℕ) (ws : List ℕ) (r : Refusal) → soundCheck cl count ws ≡ some r → r .number ≡ unsound
 unsound-number cl count ws r e = let (f, at, number, place) = sound-refusal cl count ws r e in number ∙ rule-number (f .rule)

@@ -11,7 +11,7 @@ use Rattle.basics.proofs.Tests.{Tells, passes, fails, is-true, is-false}
 use Rattle.basics.proofs.Lists.{here, there, nowhere, for-cons}
 use Rattle.labelling.proofs.LabelOrder.{same-alike, same?}
 
--- no element is found for a label exactly if none has it
+-- no element is found for a label exactly if no element has the label
 pub find-none : (l : Label) (es : List Element) → find l es ≡ none ↔ ((e : Element) → e ∈ es → e .label ≡ l → ⊥)
 unfolding find
 find-none l [] = (λ h e m. absurd (nowhere m), λ h. refl)
@@ -22,7 +22,7 @@ find-none l (x ∷ es) = go (same (x .label) l) (same? (x .label) l) (find-none 
     go true (passes d) below = (λ h. absurd (Option·some-ne-none x h), λ h. absurd (h x (here refl) d))
     go false (fails n) below = (λ h. for-cons (λ e. e .label ≡ l → ⊥) n (below .0 h), λ h. below .1 (λ e m. h e (there m)))
 
--- the first of some elements that has a label
+-- an element that is the first of some to have a label
 pub record FirstWith (l : Label) (es : List Element) (p : Element) : Type 0 where
   pub passed : List Element
   pub rest : List Element
@@ -30,7 +30,7 @@ pub record FirstWith (l : Label) (es : List Element) (p : Element) : Type 0 wher
   pub labelled : p .label ≡ l
   pub others : (e : Element) → e ∈ passed → e .label ≡ l → ⊥
 
--- the first element with a label is found behind others
+-- the first element with a label is found behind others that do not have it
 first-found : (l : Label) (passed : List Element) (p : Element) (rest : List Element) → p .label ≡ l →
     ((e : Element) → e ∈ passed → e .label ≡ l → ⊥) → find l (passed ++ (p ∷ rest)) ≡ some p
 unfolding find
@@ -38,7 +38,7 @@ first-found l [] p rest h n = rw (is-true (same (p .label) l) (same-alike (p .la
 first-found l (x ∷ passed) p rest h n =
     rw (is-false (same (x .label) l) (λ t. n x (here refl) (same-alike (x .label) l .0 t))) (first-found l passed p rest h (λ e m. n e (there m)))
 
--- what is found for a label is the first element that has it
+-- the element found for a label is the first that has the label
 found-first : (l : Label) (es : List Element) (p : Element) → find l es ≡ some p → FirstWith l es p
 unfolding find
 found-first l [] p e = absurd (Option·none-ne-some p e)
@@ -58,7 +58,7 @@ found-first l (x ∷ es) p e = go (same (x .label) l) (same? (x .label) l) e (fo
           others = for-cons (λ y. y .label ≡ l → ⊥) n (f .others);
         }
 
--- an element is found for a label exactly if it is the first that has it
+-- an element is found for a label exactly if it is the first that has the label
 pub find-iff : (l : Label) (es : List Element) (p : Element) → find l es ≡ some p ↔ FirstWith l es p
 find-iff l es p = (found-first l es p, λ f. ap (find l) (f .split) ∙ first-found l (f .passed) p (f .rest) (f .labelled) (f .others))
 
@@ -66,7 +66,7 @@ find-iff l es p = (found-first l es p, λ f. ap (find l) (f .split) ∙ first-fo
 pub first-mem : {l : Label} {es : List Element} {p : Element} → FirstWith l es p → p ∈ es
 first-mem f = rw (f .split) (Memᴰ·append-right (f .passed) (here refl))
 
--- where an element has a label, one is the first that has it
+-- where an element has a label, one element is the first that has it
 pub has-first : (l : Label) (es : List Element) (p : Element) → p ∈ es → p .label ≡ l → (q : Element) × FirstWith l es q
 has-first l es p m e = go (find l es) refl
   where

@@ -1,4 +1,4 @@
--- The words of a store, and which are sound.
+-- The words of a store, and which stores are sound.
 pub mod Words
 pub mod Relaid
 pub mod Finding
@@ -6,6 +6,6 @@ pub mod Rules
 pub mod Sizes
 pub mod Faults
 pub mod SoundStore
--- Examples.
+-- Examples that the checker works through.
 pub mod Computing
 pub mod Examples

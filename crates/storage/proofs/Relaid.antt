@@ -1,4 +1,5 @@
--- Any sound store, from a run or not: its words are those of its elements, so what a call lays out anew it leaves as it was.
+-- Any sound store, from a run or not: its words are those of its elements,
+-- so what a call lays out anew it leaves as it was.
 use mathlib.Core.Path.{_≡_, refl, sym, ap, ap₂, subst, _∙_}
 use mathlib.Core.Bool.{Bool, true, false}
 use mathlib.Core.List.{List, [], _∷_, _++_}
@@ -16,7 +17,7 @@ use Rattle.storage.specs.Store.{Element, Rule, elementWords, storeWords,
 use Rattle.basics.proofs.Tests.{and-iff}
 use Rattle.labelling.proofs.LabelWords.{isLabel-iff, labelOf-take, labelWords-labelOf}
 
--- a list of four is its members
+-- a list of length 4 is the list of its four members
 four : (t : List ℕ) → length t ≡ 4 → getD t 0 0 ∷ getD t 1 0 ∷ getD t 2 0 ∷ getD t 3 0 ∷ [] ≡ t
 four [] h = absurd (omega arith)
 four (a ∷ []) h = absurd (omega arith)
@@ -25,7 +26,7 @@ four (a ∷ b ∷ c ∷ []) h = absurd (omega arith)
 four (a ∷ b ∷ c ∷ d ∷ []) h = refl
 four (a ∷ b ∷ c ∷ d ∷ e ∷ t) h = absurd (omega arith)
 
--- the last four words of a record
+-- the last four words of a record are what follows its label's words
 last-four : (r : List ℕ) → length r ≡ recordSize → getD r 16 0 ∷ getD r 17 0 ∷ getD r 18 0 ∷ getD r 19 0 ∷ [] ≡ drop labelSize r
 last-four r h = sym at ∙ four (drop labelSize r) (length-drop labelSize r ∙ ap (λ n. n - labelSize) h)
   where
@@ -33,40 +34,40 @@ last-four r h = sym at ∙ four (drop labelSize r) (length-drop labelSize r ∙ 
         getD r 16 0 ∷ getD r 17 0 ∷ getD r 18 0 ∷ getD r 19 0 ∷ []
     at i = getD-drop labelSize r 0 0 i ∷ getD-drop labelSize r 1 0 i ∷ getD-drop labelSize r 2 0 i ∷ getD-drop labelSize r 3 0 i ∷ []
 
--- a record that is laid out as it must be has a depth of at most 15
+-- a record that is laid out as a label has a depth of at most 15
 pub laid-depth : (r : List ℕ) → T (laidOut r) → getD r 0 0 ≤ maxDepth
 unfolding laidOut
 laid-depth r t = subst (λ n. n ≤ maxDepth) (getD-take labelSize r 0 0 (omega arith)) (isLabel-iff (take labelSize r) .0 t .depth)
 
--- its first sixteen words are those of its label
+-- the first sixteen words of a record that is laid out as a label are those of its label
 pub label-back : (r : List ℕ) → T (laidOut r) → labelWords (readElement r .label) ≡ take labelSize r
 unfolding readElement laidOut
 label-back r t = ap labelWords (sym (labelOf-take r (laid-depth r t))) ∙ labelWords-labelOf (take labelSize r) t
 
--- and all of them those of what it reads as
+-- all words of a record that is laid out as a label are those of the element read from it
 words-back : (r : List ℕ) → length r ≡ recordSize → T (laidOut r) → elementWords (readElement r) ≡ r
 unfolding elementWords readElement
 words-back r h t = ap₂ _++_ (label-back r t) (last-four r h) ∙ take-append-drop labelSize r
 
--- a passed test passed, and the rest is what is left
+-- where a test and the rules after it break nothing, the test has passed
 pub test-none : (b : Bool) (r : Rule) (o : Option Rule) → test b r o ≡ none → T b
 unfolding test
 test-none true r o e = tt
 test-none false r o e = absurd (Option·some-ne-none r e)
 
--- a passed test leaves the rules after it
+-- where a test and the rules after it break nothing, the rules after it break nothing
 pub test-rest : (b : Bool) (r : Rule) (o : Option Rule) → test b r o ≡ none → o ≡ none
 unfolding test
 test-rest true r o e = e
 test-rest false r o e = absurd (Option·some-ne-none r e)
 
--- a rule that is kept leaves the rules after it
+-- a test that passes leaves the decision to the rules after it
 pub test-passes : (b : Bool) (r : Rule) (o : Option Rule) → T b → test b r o ≡ o
 unfolding test
 test-passes true r o t = refl
 test-passes false r o t = absurd t
 
--- a sound record is laid out as it must be
+-- a sound record is laid out as a label
 pub sound-laid : (cl : Clues) (done : List Element) (r : List ℕ) → broken cl done r ≡ none → T (laidOut r)
 unfolding broken
 sound-laid cl [] r e = and-iff (laidOut r) (eqb (getD r 0 0) 0) .0 (test-none _ _ _ e) .0

@@ -1,4 +1,4 @@
--- The rules of a sound record as facts, and that the rule named is the first that does not hold.
+-- The rules of a sound record as facts: the rule named for a record is the first whose fact does not hold.
 use mathlib.Core.Path.{_≡_, refl, sym, ap, subst, _∙_}
 use mathlib.Core.Logic.{_↔_, Iff·rfl, Iff·trans, _⊎_, by-cases}
 use mathlib.Core.Bool.{Bool, true, false, _&&_, _||_, not}
@@ -28,31 +28,31 @@ pub record Layout (done : List Element) (ws : List ℕ) : Type 0 where
 abbrev pub Closed : Clues → Element → Type 0
 Closed cl e = (length (cl (e .name)) ≡ 0) ⊎ (length (e .label) ≡ maxDepth) → e .next ≡ 0
 
--- the parent of a record: the last element before it that has its label without the last component
+-- the parent of a record: the last element before it that has the record's label without the last component
 abbrev pub ParentOf : List Element → List ℕ → Element → Type 0
 ParentOf done ws = FirstWith (above (readElement ws .label)) done
 
 -- what a rule says of a record after the elements before it, the previous one first
 abbrev pub Keeps : Clues → List Element → List ℕ → Rule → Type 0
--- depth at most 15, 0 for record 0 only, used components at most 65,534, unused ones 0
+-- layout: depth at most 15, 0 for record 0 only, used components at most 65,534, unused ones 0
 Keeps cl done ws layoutRule = Layout done ws
--- its label is after the previous record's
+-- order: the record's label is after the previous record's
 Keeps cl [] ws orderRule = Unit {0}
 Keeps cl (previous ∷ done) ws orderRule = Precedes (previous .label) (readElement ws .label)
--- its parent stands earlier
+-- parent: the record's parent stands earlier
 Keeps cl [] ws parentRule = Unit {0}
 Keeps cl (previous ∷ done) ws parentRule = (p : Element) × p ∈ previous ∷ done × (p .label ≡ above (readElement ws .label))
--- its name is what its last component leads to from its parent's name, record 0's is 0 to 63
+-- name: what the last component leads to from the parent's name; record 0's is 0 to 63
 Keeps cl [] ws nameRule = readElement ws .name ≤ maxName
 Keeps cl (previous ∷ done) ws nameRule =
     (p : Element) → ParentOf (previous ∷ done) ws p → led (cl (p .name)) (last (readElement ws .label)) ≡ some (readElement ws .name)
--- its last component is below its parent's f
+-- last component: below the parent's f
 Keeps cl [] ws lastRule = Unit {0}
 Keeps cl (previous ∷ done) ws lastRule = (p : Element) → ParentOf (previous ∷ done) ws p → last (readElement ws .label) < p .next
--- its own f is 0 if its clue is empty or its depth is 15
+-- next number: the record's own f is 0 if its clue is empty or its depth is 15
 Keeps cl done ws nextRule = Closed cl (readElement ws)
 
--- the place of a rule in their order
+-- the place of a rule in the order of rules
 abbrev pub rank : Rule → ℕ
 rank layoutRule = 0
 rank orderRule = 1
@@ -86,23 +86,23 @@ same-rank q r e = sym (at q) ∙ ap rule e ∙ at r
     at lastRule = refl
     at nextRule = refl
 
--- what is said of the facts by the first rule that is broken, or by none
+-- what the first rule broken, or none, says of the facts
 abbrev Outcome : (Rule → Type 0) → Option Rule → Type 0
 Outcome K none = (r : Rule) → K r
 Outcome K (some r) = Breaks K r
 
--- the tests of all rules, one after the other
+-- the tests of all rules, one after the other in their order
 abbrev chain : (Rule → Bool) → Option Rule
 chain b =
     test (b layoutRule) layoutRule (test (b orderRule) orderRule (test (b parentRule) parentRule
     (test (b nameRule) nameRule (test (b lastRule) lastRule (test (b nextRule) nextRule none)))))
 
 module _ (K : Rule → Type 0) where
-  -- the facts of the rules before a place
+  -- the facts of the rules before a place in the order
   abbrev Before : ℕ → Type 0
   Before n = (q : Rule) → rank q < n → K q
 
-  -- one test more: where it fails the rule is the first that is broken
+  -- one rule more is tested: where the test fails, that rule is the first that is broken
   tested : (r : Rule) (b : Bool) → T b ↔ K r → (o : Option Rule) → Before (rank r) → (Before (suc (rank r)) → Outcome K o) → Outcome K (test b r o)
   unfolding test
   tested r true e o h k = k (λ q l. by-cases (decLt (rank q) (rank r)) (h q) (λ n. subst K (same-rank r q (omega arith)) (e .0 tt)))
@@ -125,12 +125,12 @@ module _ (K : Rule → Type 0) where
       low lastRule = omega arith
       low nextRule = omega arith
 
-  -- no rule is named exactly if all facts hold
+  -- no rule is named exactly if the facts of all rules hold
   outcome-none : (o : Option Rule) → Outcome K o → o ≡ none ↔ ((r : Rule) → K r)
   outcome-none none h = (λ e. h, λ k. refl)
   outcome-none (some q) h = (λ e. absurd (Option·some-ne-none q e), λ k. absurd (h .fails (k q)))
 
-  -- a rule is named exactly if its fact does not hold and those before it do
+  -- a rule is named exactly if its fact does not hold and the facts of the rules before it do
   outcome-some : (o : Option Rule) → Outcome K o → (r : Rule) → o ≡ some r ↔ Breaks K r
   outcome-some none h r = (λ e. absurd (Option·none-ne-some r e), λ b. absurd (b .fails (h r)))
   outcome-some (some q) h r = (λ e. subst (Breaks K) (Option·some-injective q r e) h, λ b. ap some (same-rank q r (level b)))
@@ -139,18 +139,18 @@ module _ (K : Rule → Type 0) where
       level b = by-cases (decLt (rank q) (rank r)) (λ l. absurd (h .fails (b .earlier q l)))
           (λ n. by-cases (decLt (rank r) (rank q)) (λ l. absurd (b .fails (h .earlier r l))) (λ m. omega arith))
 
--- a test that another implies
+-- the test that one test implies another passes exactly if one fact implies the other
 implies-iff : {P Q : Type 0} (a b : Bool) → T a ↔ P → T b ↔ Q → T (not a || b) ↔ (P → Q)
 implies-iff true b e f = (λ t p. f .0 t, λ h. f .1 (h (e .0 tt)))
 implies-iff false b e f = (λ t p. absurd (e .1 p), λ h. tt)
 
--- the test of a next number passes exactly if it is 0 where nothing may stand below
+-- the test of a next number passes exactly if the number is 0 where nothing may stand below
 closed-iff : (cl : Clues) (e : Element) → T (closed cl e) ↔ Closed cl e
 unfolding closed
 closed-iff cl e = implies-iff (eqb (length (cl (e .name))) 0 || eqb (length (e .label)) maxDepth) (eqb (e .next) 0)
     (or-facts (eqb (length (cl (e .name))) 0) (eqb (length (e .label)) maxDepth) (eqb-alike _ 0) (eqb-alike _ maxDepth)) (eqb-alike (e .next) 0)
 
--- the test of a component passes exactly if it leads to the name
+-- the test of where a component leads passes exactly if it leads to the name
 leads-iff : (clue : List ℕ) (x name : ℕ) → T (leads clue x name) ↔ (led clue x ≡ some name)
 unfolding leads elim?
 leads-iff clue x name = go (led clue x)
@@ -159,18 +159,18 @@ leads-iff clue x name = go (led clue x)
     go none = (absurd, λ e. absurd (Option·none-ne-some name e))
     go (some c) = (λ t. ap some (eqb-alike c name .0 t), λ e. eqb-alike c name .1 (Option·some-injective c name e))
 
--- the layout of record 0
+-- the test of record 0's layout passes exactly if the layout is right
 layout-root : (ws : List ℕ) → T (laidOut ws && eqb (getD ws 0 0) 0) ↔ Layout [] ws
 unfolding laidOut
 layout-root ws = Iff·trans (and-facts (laidOut ws) (eqb (getD ws 0 0) 0) (isLabel-iff (take labelSize ws)) (eqb-alike (getD ws 0 0) 0))
     (λ h. record { words = h .0; rootOnly = (λ e. refl, λ e. h .1) }, λ l. (l .words, l .rootOnly .1 refl))
 
--- a later record that is laid out as it must be has a depth above 0
+-- a later record whose layout is right has a depth above 0
 pub layout-deep : {previous : Element} {done : List Element} {ws : List ℕ} → Layout (previous ∷ done) ws → 0 < getD ws 0 0
 layout-deep {previous} {done} {ws} l =
     by-cases (decLt 0 (getD ws 0 0)) (λ p. p) (λ n. absurd (cons-ne-nil previous done (l .rootOnly .0 (omega arith))))
 
--- the layout of a later record
+-- the test of a later record's layout passes exactly if the layout is right
 layout-below : (previous : Element) (done : List Element) (ws : List ℕ) → T (laidOut ws && ltb 0 (getD ws 0 0)) ↔ Layout (previous ∷ done) ws
 unfolding laidOut
 layout-below previous done ws =
@@ -181,7 +181,7 @@ layout-below previous done ws =
 
 -- the tests of a record's parent among the elements before it
 module _ (done : List Element) (ws : List ℕ) where
-  -- the parent, where it stands
+  -- the parent of the record among the elements before it, where one stands
   abbrev parent : Option Element
   parent = find (above (readElement ws .label)) done
 
@@ -198,7 +198,7 @@ module _ (done : List Element) (ws : List ℕ) where
         λ h. e q .1 (h q (find-iff _ done q .0 d)),
       )
 
-  -- a parent is found exactly if one stands
+  -- a parent is found exactly if an element before the record has its label without the last component
   has-parent : T (elim? parent false (λ p. true)) ↔ ((p : Element) × p ∈ done × (p .label ≡ above (readElement ws .label)))
   unfolding elim?
   has-parent = go parent refl
@@ -208,7 +208,7 @@ module _ (done : List Element) (ws : List ℕ) where
       go none d = (absurd, λ h. find-none _ done .0 d (h .0) (h .1) (h .2))
       go (some q) d = (λ t. let (m, f) = find-mem _ done q d in (q, m, f), λ h. tt)
 
--- the test of a rule
+-- the test of each rule for a record after the elements before it
 keeps : Clues → List Element → List ℕ → Rule → Bool
 keeps cl [] ws layoutRule = laidOut ws && eqb (getD ws 0 0) 0
 keeps cl (previous ∷ done) ws layoutRule = laidOut ws && ltb 0 (getD ws 0 0)
@@ -223,7 +223,7 @@ keeps cl [] ws lastRule = true
 keeps cl (previous ∷ done) ws lastRule = elim? (parent (previous ∷ done) ws) true (λ p. ltb (last (readElement ws .label)) (p .next))
 keeps cl done ws nextRule = closed cl (readElement ws)
 
--- the test of a rule passes exactly if the record keeps it
+-- the test of a rule passes exactly if the record keeps that rule
 keeps-iff : (cl : Clues) (done : List Element) (ws : List ℕ) (r : Rule) → T (keeps cl done ws r) ↔ Keeps cl done ws r
 unfolding keeps isName
 keeps-iff cl [] ws layoutRule = layout-root ws
@@ -241,7 +241,7 @@ keeps-iff cl (previous ∷ done) ws lastRule =
 keeps-iff cl [] ws nextRule = closed-iff cl (readElement ws)
 keeps-iff cl (previous ∷ done) ws nextRule = closed-iff cl (readElement ws)
 
--- the rules that a parent decides, tested one after the other
+-- the rules of parent, name and last component, tested one after the other, give what the search for the parent gives
 parent-chain : (o : Option Element) (f g : Element → Bool) (rest : Option Rule) →
     elim? o (some parentRule) (λ p. test (f p) nameRule (test (g p) lastRule rest)) ≡
     test (elim? o false (λ p. true)) parentRule (test (elim? o true f) nameRule (test (elim? o true g) lastRule rest))
@@ -258,7 +258,7 @@ broken-chain cl (previous ∷ done) ws =
     (parent-chain (parent (previous ∷ done) ws) _ _ _)
 
 module _ (cl : Clues) (done : List Element) (ws : List ℕ) where
-  -- what the rule named says of a record
+  -- the rule named for a record is the first whose fact does not hold
   broken-outcome : Outcome (Keeps cl done ws) (broken cl done ws)
   broken-outcome = rw (broken-chain cl done ws) (chain-outcome (Keeps cl done ws) (keeps cl done ws) (keeps-iff cl done ws))
 

@@ -12,7 +12,7 @@ use Rattle.basics.specs.Basics.{_∈_, all, last, Ascending, none-left, one-mor
 use Rattle.basics.specs.Limits.{maxName, labelSize, recordSize}
 use Rattle.naming.specs.Names.{Clues, led}
 use Rattle.labelling.specs.Labels.{Label, before, above, nameAt, endOf, decode, labelOf}
-use Rattle.storage.specs.Store.{Element, readElement, records, elements, laidOut, broken, fault, rootOf, sizeCheck, soundCheck, layoutRule, orderRule, parentRule, nameRule, lastRule, nextRule}
+use Rattle.storage.specs.Store.{Element, ahead, readElement, records, elements, laidOut, broken, fault, rootOf, sizeCheck, soundCheck, layoutRule, orderRule, parentRule, nameRule, lastRule, nextRule}
 use Rattle.basics.proofs.Lists.{here, there, nowhere, for-cons}
 use Rattle.labelling.proofs.LabelOrder.{before-order, above-last, above-before, precedes-iff}
 use Rattle.labelling.proofs.Decode.{name-child}
@@ -24,10 +24,6 @@ use Rattle.storage.proofs.Words.{Fit}
 use Rattle.storage.proofs.Sizes.{size-iff}
 use Rattle.storage.proofs.Faults.{fault-cons, sound-check}
 
--- the order of elements by their labels
-abbrev pub ahead : Element → Element → Bool
-ahead e f = before (e .label) (f .label)
-
 -- elements in label order, each label decoding to its element's name under a root name
 pub record SoundElements (cl : Clues) (root : ℕ) (es : List Element) : Type 0 where
   pub rootIsName : root ≤ maxName
@@ -35,7 +31,8 @@ pub record SoundElements (cl : Clues) (root : ℕ) (es : List Element) : Type 0 
   pub labelled : (e : Element) → e ∈ es → GoodLabel (e .label)
   pub named : (e : Element) → e ∈ es → nameAt cl root (e .label) ≡ some (e .name)
 
--- an element below another of a store: the other stands earlier, right above it, and its clue and next number allow the last component
+-- An element below another of a store: the other stands earlier, right above it,
+-- and the other's clue and next number allow the last component.
 pub record Child (cl : Clues) (es : List Element) (e : Element) : Type 0 where
   pub deeper : 0 < length (e .label)
   pub parent : Element
@@ -45,19 +42,19 @@ pub record Child (cl : Clues) (es : List Element) (e : Element) : Type 0 where
   pub named : led (cl (parent .name)) (last (e .label)) ≡ some (e .name)
   pub below : last (e .label) < parent .next
 
--- the rules that hold of an element of a store, but for the order
+-- the rules that an element of a store keeps, but for that of order
 record Kept (cl : Clues) (es : List Element) (e : Element) : Type 0 where
   labelled : GoodLabel (e .label)
   child : Child cl es e
   shut : Closed cl e
 
 module _ (r : List ℕ) (laid : T (laidOut r)) where
-  -- the label of a record that is laid out as it must be is good
+  -- the label of a record that is laid out as a label is good
   pub label-good : GoodLabel (readElement r .label)
   unfolding laidOut readElement
   label-good = subst GoodLabel (labelOf-take r (laid-depth r laid)) (labelOf-good (take labelSize r) laid)
 
-  -- and as long as the depth says
+  -- the label of a record that is laid out as a label is as long as the depth says
   label-length : length (readElement r .label) ≡ getD r 0 0
   unfolding laidOut readElement labelOf
   label-length = length-take-le (getD r 0 0) (drop 1 r)
@@ -74,7 +71,7 @@ first-kept cl r e =
     empty [] h = refl
     empty (x ∷ l) h = absurd (omega arith)
 
--- a sound record after others keeps the rules
+-- a sound record after others keeps the rules, and comes after the previous one
 next-kept : (cl : Clues) (previous : Element) (done : List Element) (r : List ℕ) → broken cl (previous ∷ done) r ≡ none →
     T (ahead previous (readElement r)) × Kept cl (previous ∷ done) (readElement r)
 next-kept cl previous done r e =
@@ -100,7 +97,7 @@ next-kept cl previous done r e =
       },
     )
 
--- the label of an element below a named one decodes to its name
+-- the label of an element below a named one decodes to the element's own name
 child-named : (cl : Clues) (root : ℕ) (es : List Element) (e : Element) (c : Child cl es e) →
     nameAt cl root (c .parent .label) ≡ some (c .parent .name) → nameAt cl root (e .label) ≡ some (e .name)
 child-named cl root es e c h =
@@ -131,14 +128,14 @@ module _ (cl : Clues) (root : ℕ) (es : List Element) where
     stands : e ∈ es
     named : nameAt cl root (e .label) ≡ some (e .name)
 
-  -- the elements after one: in order, each with its name and under the rules
+  -- the elements after a previous one: in label order, each with its name and under the rules
   record Rest (previous : Element) (rest : List Element) : Type 0 where
     ordered : Ascending ahead rest
     later : (e : Element) → e ∈ rest → T (ahead previous e)
     named : (e : Element) → e ∈ rest → nameAt cl root (e .label) ≡ some (e .name)
     kept : (e : Element) → e ∈ rest → Kept cl es e
 
-  -- one element more after one
+  -- one element more, right after the previous one
   rest-cons : {previous e : Element} {rest : List Element} → T (ahead previous e) → Named e → Kept cl es e → Rest e rest → Rest previous (e ∷ rest)
   rest-cons {previous} {e} {rest} k n h r = record {
     ordered = one-more (r .later) (r .ordered);
@@ -147,7 +144,8 @@ module _ (cl : Clues) (root : ℕ) (es : List Element) where
     kept = for-cons (Kept cl es) h (r .kept);
   }
 
-  -- the elements of records without a fault, after elements that have their names
+  -- the elements of records without a fault, after elements that have their names,
+  -- are in order, each with its name and under the rules
   sound-rest : (rs : List (List ℕ)) (previous : Element) (done : List Element) → ((d : Element) → d ∈ previous ∷ done → Named d) →
       ((e : Element) → e ∈ map readElement rs → e ∈ es) → fault cl (previous ∷ done) rs ≡ none → Rest previous (map readElement rs)
   sound-rest [] previous done d m e =
@@ -173,16 +171,16 @@ element0 ws = readElement (take recordSize ws)
 
 -- a store without a fault
 module _ (cl : Clues) (n : ℕ) (ws : List ℕ) (sound : fault cl [] (records (suc n) ws) ≡ none) where
-  -- neither record 0 breaks a rule, nor one after it
+  -- in a store without a fault record 0 breaks no rule, and the records after it break none
   both-sound : (broken cl [] (take recordSize ws) ≡ none) × (fault cl (element0 ws ∷ []) (records n (drop recordSize ws)) ≡ none)
   unfolding records
   both-sound = fault-cons cl [] (take recordSize ws) (records n (drop recordSize ws)) sound
 
-  -- record 0's label is the root's
+  -- the label of record 0 is the root's
   pub sound-root : readElement (take recordSize ws) .label ≡ []
   sound-root = first-kept cl (take recordSize ws) (both-sound .0) .0
 
-  -- and decodes to its name, which is the root's
+  -- the label of record 0 decodes to record 0's name, which is the root's
   root-named : nameAt cl (element0 ws .name) (element0 ws .label) ≡ some (element0 ws .name)
   root-named = ap (nameAt cl (element0 ws .name)) sound-root ∙ name-root cl (element0 ws .name)
 
@@ -194,7 +192,7 @@ module _ (cl : Clues) (n : ℕ) (ws : List ℕ) (sound : fault cl [] (records (s
       (for-cons (Named cl (element0 ws .name) (elements (suc n) ws)) (record { stands = here refl; named = root-named }) (λ d m. absurd (nowhere m)))
       (λ e m. there m) (both-sound .1)
 
-  -- its labels are good and in order, and each decodes to its element's name
+  -- the labels of a sound store are good and in order, and each decodes to its element's name
   pub sound-elements : SoundElements cl (readElement (take recordSize ws) .name) (elements (suc n) ws)
   unfolding elements records all
   sound-elements = record {

@@ -12,13 +12,13 @@ use Rattle.storage.specs.Store.{Element, elementWords, storeWords, readE
 use Rattle.basics.proofs.Lists.{here, there, length-joined}
 use Rattle.labelling.proofs.LabelWords.{length-labelWords, labelOf-words}
 
--- an element has twenty words
+-- the record of an element has twenty words
 pub length-elementWords : (e : Element) → length (e .label) ≤ maxDepth → length (elementWords e) ≡ recordSize
 unfolding elementWords
 length-elementWords e h = length-append (labelWords (e .label)) (e .name ∷ e .next ∷ e .payload0 ∷ e .payload1 ∷ []) ∙ ap (λ n. n + 4)
     (length-labelWords (e .label) h)
 
--- behind a label's words stand the other four
+-- the four words behind a label's are read as they stand
 field-read : (l : Label) (t : List ℕ) → length l ≤ maxDepth → (i : ℕ) → getD (labelWords l ++ t) (labelSize + i) 0 ≡ getD t i 0
 field-read l t h i = rw (← length-labelWords l h) (getD-append-add (labelWords l) t i 0)
 
@@ -33,16 +33,16 @@ read-element e h = λ i. record { label = labelOf-words (e .label) tail i; name 
     at : (i : ℕ) → getD (labelWords (e .label) ++ tail) (labelSize + i) 0 ≡ getD tail i 0
     at = field-read (e .label) tail h
 
--- every label of the list fits a record
+-- every label of a list of elements fits a record: it has at most 15 components
 abbrev pub Fit : List Element → Type 0
 Fit es = (e : Element) → e ∈ es → length (e .label) ≤ maxDepth
 
--- a store has twenty words for each element
+-- the records of elements have twenty words for each
 pub length-storeWords : (es : List Element) → Fit es → length (storeWords es) ≡ recordSize * length es
 unfolding storeWords
 length-storeWords es h = length-joined elementWords recordSize es (λ e m. length-elementWords e (h e m))
 
--- words that begin with a store's words are read as its records
+-- words that begin with the records of some elements are read as these records
 pub records-storeWords : (es : List Element) → Fit es → (ws : List ℕ) → take (recordSize * length es) ws ≡ storeWords es →
     records (length es) ws ≡ map elementWords es
 unfolding storeWords joined records
@@ -57,12 +57,12 @@ records-storeWords (x ∷ es) h ws e =
     ap (λ t. t ++ take (recordSize * length es) (drop recordSize ws)) (sym a) ∙ sym (take-add recordSize (recordSize * length es) ws) ∙ e′ in
     ap₂ _∷_ a (records-storeWords es (λ y m. h y (there m)) (drop recordSize ws) (append-cancel-left (elementWords x) _ _ f))
 
--- records read as the elements laid out in them
+-- the records of elements are read as these elements
 read-back : (es : List Element) → Fit es → map readElement (map elementWords es) ≡ es
 read-back [] h = refl
 read-back (e ∷ es) h = ap₂ _∷_ (read-element e (h e (here refl))) (read-back es (λ x m. h x (there m)))
 
--- and as its elements
+-- words that begin with the records of some elements are read as these elements
 pub elements-storeWords : (es : List Element) → Fit es → (ws : List ℕ) → take (recordSize * length es) ws ≡ storeWords es → elements (length es) ws ≡ es
 unfolding elements
 elements-storeWords es h ws e = ap (map readElement) (records-storeWords es h ws e) ∙ read-back es h

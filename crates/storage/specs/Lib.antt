@@ -1,4 +1,4 @@
 -- Records, and which of them are sound.
 pub mod Store
--- Examples.
+-- Examples that the checker works through.
 pub mod Examples

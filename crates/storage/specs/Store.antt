@@ -6,7 +6,7 @@ use Prim.Native.Nat.{ℕ, zero, suc, _*_, _%_, _+_}
 use lib.ListN.{length, getD, take, drop}
 use lib.Dec.{ltb, leb, eqb}
 use Rattle.basics.specs.Basics.{elim?, last, joined}
-use Rattle.basics.specs.Limits.{maxDepth, maxElements, labelSize, recordSize, nameWord, nextWord, payloadWord}
+use Rattle.basics.specs.Limits.{maxDepth, maxRecords, labelSize, recordSize, nameWord, nextWord, payloadWord}
 use Rattle.basics.specs.Refusals.{Refusal, refuse, check, storeSize, unsound}
 use Rattle.naming.specs.Names.{Clues, led, isName}
 use Rattle.labelling.specs.Labels.{Label, before, same, above, labelOf, labelWords, isLabel}
@@ -19,7 +19,12 @@ pub record Element : Type 0 where
   pub payload0 : ℕ
   pub payload1 : ℕ
 
--- its record: word 0 the depth, words 1 to 15 the components, word 16 the name, word 17 f, words 18 and 19 the payload
+-- the order of elements by their labels
+abbrev pub ahead : Element → Element → Bool
+ahead e f = before (e .label) (f .label)
+
+-- the record of an element: word 0 the depth, words 1 to 15 the components,
+-- word 16 the name, word 17 f, words 18 and 19 the payload
 unfoldable pub elementWords : Element → List ℕ
 elementWords e = labelWords (e .label) ++ (e .name ∷ e .next ∷ e .payload0 ∷ e .payload1 ∷ [])
 
@@ -29,10 +34,15 @@ storeWords es = joined (map elementWords es)
 
 -- the element that a record stands for
 unfoldable pub readElement : List ℕ → Element
-readElement ws =
-    record { label = labelOf ws; name = getD ws nameWord 0; next = getD ws nextWord 0; payload0 = getD ws payloadWord 0; payload1 = getD ws (payloadWord + 1) 0 }
+readElement ws = record {
+  label = labelOf ws;
+  name = getD ws nameWord 0;
+  next = getD ws nextWord 0;
+  payload0 = getD ws payloadWord 0;
+  payload1 = getD ws (payloadWord + 1) 0;
+}
 
--- the root's name: record 0's
+-- the root's name, which is record 0's
 unfoldable pub rootOf : List ℕ → ℕ
 rootOf ws = readElement (take recordSize ws) .name
 
@@ -41,45 +51,45 @@ unfoldable pub records : ℕ → List ℕ → List (List ℕ)
 records zero ws = []
 records (suc c) ws = take recordSize ws ∷ records c (drop recordSize ws)
 
--- the elements in use
+-- the elements of the first `count` records of a slice
 unfoldable pub elements : ℕ → List ℕ → List Element
 elements c ws = map readElement (records c ws)
 
--- the element with a label
+-- the element with a label, if one has it
 unfoldable pub find : Label → List Element → Option Element
 find l [] = none
 find l (e ∷ es) = cond (same (e .label) l) (some e) (find l es)
 
--- the element with a label, or the empty one where a call stands refused
+-- the element with a label, or the empty element, which only a refused call reads
 unfoldable pub elementAt : Label → List Element → Element
 elementAt l es = elim? (find l es) (record { label = []; name = 0; next = 0; payload0 = 0; payload1 = 0 }) (λ e. e)
 
--- a slice's length: a multiple of 20, not 0
+-- whether a number is a slice's length: a multiple of 20, not 0
 unfoldable pub isSlice : ℕ → Bool
 isSlice len = eqb (len % recordSize) 0 && ltb 0 len
 
--- the check of sizes, 18: also a count of 0, over the slice or over 4,096
+-- the check of a slice's length and a count, which refuses by 18: a count is not 0, nor over the slice or 4,096
 unfoldable pub sizeCheck : ℕ → ℕ → Option Refusal
-sizeCheck len count = check (isSlice len && ltb 0 count && leb (recordSize * count) len && leb count maxElements) storeSize 0
+sizeCheck len count = check (isSlice len && ltb 0 count && leb (recordSize * count) len && leb count maxRecords) storeSize 0
 
 -- the rules of a sound record, in order
 pub data Rule : Type 0 where
   layoutRule orderRule parentRule nameRule lastRule nextRule : Rule
 
--- a rule that is broken settles it
+-- one test in a list of rules: a rule whose test fails is the one broken, and else the rest decides
 unfoldable pub test : Bool → Rule → Option Rule → Option Rule
 test true r o = o
 test false r o = some r
 
--- depth is at most 15, used components at most 65,534, unused ones 0
+-- whether a record is laid out as a label: depth at most 15, used components at most 65,534, unused ones 0
 unfoldable pub laidOut : List ℕ → Bool
 laidOut ws = isLabel (take labelSize ws)
 
--- a component leads from a clue to a name
+-- whether a component leads from a clue to a name
 unfoldable pub leads : List ℕ → ℕ → ℕ → Bool
 leads clue x name = elim? (led clue x) false (λ c. eqb c name)
 
--- its own f is 0 if its clue is empty or its depth is 15
+-- whether an element's own f is 0 if its clue is empty or its depth is 15
 unfoldable pub closed : Clues → Element → Bool
 closed cl e = not (eqb (length (cl (e .name))) 0 || eqb (length (e .label)) maxDepth) || eqb (e .next) 0
 
@@ -96,7 +106,7 @@ broken cl (previous ∷ done) ws =
     test (leads (cl (p .name)) (last (e .label)) (e .name)) nameRule
     (test (ltb (last (e .label)) (p .next)) lastRule (test (closed cl e) nextRule none)))))
 
--- an unsound record: its place, and the rule that it breaks
+-- a record that is not sound: its place, and the rule that it breaks
 pub record Fault : Type 0 where
   pub place : ℕ
   pub rule : Rule
@@ -115,6 +125,6 @@ numberOf nameRule = unsound
 numberOf lastRule = unsound
 numberOf nextRule = unsound
 
--- the check of the records in use, 19 at the first that breaks a rule
+-- the check of the records in use, which refuses by 19 at the first record that breaks a rule
 unfoldable pub soundCheck : Clues → ℕ → List ℕ → Option Refusal
 soundCheck cl count ws = elim? (fault cl [] (records count ws)) none (λ f. refuse (numberOf (f .rule)) (f .place))

@@ -13,7 +13,7 @@ use Rattle.basics.specs.Limits.{maxDepth}
 use Rattle.naming.specs.Names.{Clues, placeIn}
 use Rattle.labelling.specs.Numbers.{number, Least}
 use Rattle.labelling.specs.Labels.{Label, before, within, same}
-use Rattle.storage.specs.Store.{Element}
+use Rattle.storage.specs.Store.{Element, ahead}
 use Rattle.store_calls.specs.Updates.{given, raised, placed, entered, without}
 use Rattle.basics.proofs.Tests.{is-true, is-false, test-equal, or-iff, decide, Tells, passes, fails, tells}
 use Rattle.basics.proofs.Lists.{here, there, here-or-there, nowhere, for-cons, for-map, keep-iff, keep-ascending, map-ascending, length-keep}
@@ -22,14 +22,14 @@ use Rattle.labelling.proofs.Number.{number-least}
 use Rattle.labelling.proofs.LabelOrder.{before-order, before-one-way, before-iff, before-extend, extend-before, before-cancel, within-iff, within-self, same-alike}
 use Rattle.storage.proofs.Words.{Fit}
 use Rattle.store_calls.proofs.Placed.{length-placed, placed-only}
-use Rattle.storage.proofs.SoundStore.{ahead}
 
--- the number given below a parent is the one for the place of the name in its clue
+-- the number given below a parent is the one for the place of the name in the parent's clue
 pub given-number : (cl : Clues) (p : Element) (name k : ℕ) → placeIn name (cl (p .name)) ≡ some k → given cl p name ≡ number (length (cl (p .name))) k (p .next)
 unfolding given elim?
 given-number cl p name k e = rw e
 
--- the number given is the least that is at least the parent's next number and leaves that place when divided by the clue's length
+-- The number given is the least that is at least the parent's next number
+-- and leaves the name's place when divided by the clue's length.
 pub given-least : (cl : Clues) (p : Element) (name k : ℕ) → placeIn name (cl (p .name)) ≡ some k → Least (length (cl (p .name))) k (p .next) (given cl p name)
 given-least cl p name k e =
     subst (Least (length (cl (p .name))) k (p .next)) (sym (given-number cl p name k e))
@@ -46,7 +46,7 @@ pub raised-same : (f : ℕ) (e : Element) →
 unfolding raised
 raised-same f e = rw (is-true (same (e .label) (e .label)) (same-alike (e .label) (e .label) .1 refl))
 
--- placing adds the new element and nothing else
+-- placing adds the new element and no other
 pub placed-iff : (l : Label) (new : Element) (es : List Element) (e : Element) → e ∈ placed l new es ↔ ((e ≡ new) ⊎ e ∈ es)
 unfolding placed
 placed-iff l new [] e = (here-or-there, ⊎-elim here there)
@@ -59,7 +59,8 @@ placed-iff l new (x ∷ es) e = go (within l (x .label) || before (x .label) l) 
     )
     go false below = (here-or-there, ⊎-elim here there)
 
--- a label goes before the new one exactly where the parent's is within it or after it
+-- Where every number below a parent is less than a new one, a label goes on from the parent's or comes before it
+-- exactly if the new child's label does not come before that label.
 pub place-test : (l : Label) (num : ℕ) (m : Label) → ((c : ℕ) (rest : Label) → m ≡ l ++ (c ∷ rest) → c < num) →
     (within l m || before m l) ≡ not (before (l ++ (num ∷ [])) m)
 unfolding before
@@ -83,7 +84,8 @@ place-test l num m low = test-equal _ _ (
     earlier w n =
         ⊎-elim (λ h. h) (⊎-elim (λ e. absurd (w (rw e (within-self l)))) (λ h. absurd (n (extend-before l m (num ∷ []) h w)))) (before-order .total m l)
 
--- placed behind its parent's subtree, a child whose number is above all that stand below the parent keeps the label order
+-- Placed behind its parent's subtree, a child whose number is above all that stand below the parent
+-- keeps the label order.
 pub placed-ascending : (l : Label) (num : ℕ) (new : Element) → new .label ≡ l ++ (num ∷ []) → {es : List Element} → Ascending ahead es →
     ((e : Element) → e ∈ es → (c : ℕ) (rest : Label) → e .label ≡ l ++ (c ∷ rest) → c < num) → Ascending ahead (placed l new es)
 unfolding placed
@@ -106,7 +108,8 @@ placed-ascending l num new is (one-more {a = x} {more} h asc) low =
         one-more (λ e m. ⊎-elim (λ d. subst (λ e. T (ahead x e)) (sym d) (later n)) (h e) (placed-iff l new more e .0 m)) below
 
 module _ (cl : Clues) (es : List Element) (p : Element) (name p0 p1 : ℕ) where
-  -- after an entry stand the new element, with its parent's label and the number given, and the others, the parent's next number one above that number
+  -- After an entry stand the new element, its label the parent's with the number given,
+  -- and the others, of which the parent has a next number one above that number.
   pub entered-iff : (e : Element) → e ∈ entered cl es p name p0 p1 ↔
       ((e ≡ record { label = p .label ++ (given cl p name ∷ []); name = name; next = 0; payload0 = p0; payload1 = p1 }) ⊎
       ((d : Element) × d ∈ es × (e ≡ raised (p .label) (given cl p name + 1) d)))
@@ -116,7 +119,8 @@ module _ (cl : Clues) (es : List Element) (p : Element) (name p0 p1 : ℕ) where
     ⊎-map (λ h. h) (λ h. Memᴰ·cast (h .2) (Memᴰ·map (raised (p .label) (given cl p name + 1)) (h .1))),
   )
 
-  -- after an entry the elements are in label order, where they were and every number below the parent is below its next number
+  -- after an entry the elements are in label order,
+  -- where they were before and every number below the parent is less than the parent's next number
   pub entered-ascending : (k : ℕ) → placeIn name (cl (p .name)) ≡ some k → Ascending ahead es →
       ((e : Element) → e ∈ es → (c : ℕ) (rest : Label) → e .label ≡ p .label ++ (c ∷ rest) → c < p .next) → Ascending ahead (entered cl es p name p0 p1)
   unfolding entered raised

@@ -4,7 +4,7 @@ use Rattle.store_calls.specs.RefusalChecks.{newStoreRefusals, entryRefus
 use Rattle.store_calls.specs.Examples.{benchStore, answered, updateChecks}
 use Rattle.storage.proofs.Computing.{computing as below}
 
--- `unfolding computing` opens them all
+-- `unfolding computing` opens every definition named here
 unfoldable pub computing : Unit {0}
 unfolding below newStoreRefusal newStore parentCheck spaceCheck entryRefusal given raised placed entered enter rootStaysCheck foundCheck deletionRefusal
     without delete newStoreRefusals entryRefusals deletionRefusals benchStore answered updateChecks

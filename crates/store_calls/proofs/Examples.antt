@@ -4,7 +4,7 @@ use Rattle.basics.specs.Examples.{Hold}
 use Rattle.store_calls.specs.Examples.{updateChecks}
 use Rattle.store_calls.proofs.Computing.{computing}
 
--- each answers and leaves what the paper says
+-- new store, entry and deletion answer and leave what the paper says
 pub update-checks : Hold updateChecks
 unfolding computing
 update-checks = refl

@@ -1,9 +1,9 @@
--- Entries and deletions.
+-- Laws of entries and deletions.
 pub mod Placed
 pub mod Parents
 pub mod Changes
 pub mod Updates
--- Examples.
+-- Examples that the checker works through.
 pub mod Computing
 pub mod Examples
 pub mod RefusalChecks

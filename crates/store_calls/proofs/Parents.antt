@@ -1,4 +1,5 @@
--- What an entry meets at its parent, and a deletion at its element: each of the refusals 9 to 12 and 14 by its facts, in both directions.
+-- What an entry meets at its parent, and a deletion at its element:
+-- each of the refusals 9 to 12 and 14 by its facts, in both directions.
 use mathlib.Core.Path.{_≡_, refl, _∙_, sym, subst}
 use mathlib.Core.Logic.{_↔_, _⊎_, inl, inr, ⊎-elim, by-cases}
 use mathlib.Core.List.{List, [], _∷_}
@@ -29,41 +30,42 @@ has-place c cs m = go (placeIn c cs) refl
     go none e = absurd (placeIn-none c cs .0 e m)
     go (some k) e = (k, e)
 
--- where no record was found, 9
+-- an entry for whose label no record was found is refused by 9
 pub parent-nine : (cl : Clues) (name : ℕ) → parentCheck cl none name ≡ refuse noRecord 0
 unfolding parentCheck
 parent-nine cl name = refl
 
 module _ (cl : Clues) (p : Element) (name : ℕ) where
-  -- where the name isn't in the parent's clue, 10
+  -- an entry of a name that isn't in the parent's clue is refused by 10
   pub parent-ten : (name ∈ cl (p .name) → ⊥) → parentCheck cl (some p) name ≡ refuse notInClue 0
   unfolding parentCheck elim?
   parent-ten h = rw (placeIn-none name (cl (p .name)) .1 h)
 
   module _ (inClue : name ∈ cl (p .name)) where
-    -- where it is, the parent's depth and the number given decide
+    -- where the name is in the parent's clue, the parent's depth and the number given decide
     parent-decides : parentCheck cl (some p) name ≡
         first (check (ltb (length (p .label)) maxDepth) tooDeep 0 ∷ check (leb (given cl p name) maxComponent) noNumber 0 ∷ [])
     unfolding parentCheck given elim?
     parent-decides = let (k, e) = has-place name (cl (p .name)) inClue in rw e
 
-    -- at depth 15, 11
+    -- an entry below a parent at depth 15 is refused by 11
     pub parent-eleven : maxDepth ≤ length (p .label) → parentCheck cl (some p) name ≡ refuse tooDeep 0
     parent-eleven deep = parent-decides ∙ first-here _ _ _ (check-failed _ tooDeep 0 (λ t. omega (arith, ltb→lt (length (p .label)) maxDepth t)))
 
-    -- above it, the number given decides
+    -- below a parent above depth 15 the number given decides
     number-decides : length (p .label) < maxDepth → parentCheck cl (some p) name ≡ check (leb (given cl p name) maxComponent) noNumber 0
     number-decides high = parent-decides ∙ first-next _ _ (check-passed _ tooDeep 0 (lt→ltb _ _ high))
 
-    -- where that is over 65,534, 12
+    -- an entry whose number would be over 65,534 is refused by 12
     pub parent-twelve : length (p .label) < maxDepth → maxComponent < given cl p name → parentCheck cl (some p) name ≡ refuse noNumber 0
     parent-twelve high over = number-decides high ∙ check-failed _ noNumber 0 (λ t. omega (arith, leb→le (given cl p name) maxComponent t))
 
-    -- where it is not, no refusal
+    -- an entry whose number is at most 65,534 is not refused at its parent
     pub parent-passed : length (p .label) < maxDepth → given cl p name ≤ maxComponent → parentCheck cl (some p) name ≡ none
     parent-passed high low = number-decides high ∙ check-passed _ noNumber 0 (le→leb _ _ low)
 
--- the facts of refusals 9 to 12: a parent stands, the name is in its clue, it is above depth 15, and the number given is at most 65,534
+-- The facts of refusals 9 to 12: a parent stands, the name is in its clue,
+-- it is above depth 15, and the number given is at most 65,534.
 pub record ParentFacts (cl : Clues) (found : Option Element) (name : ℕ) : Type 0 where
   pub parent : Element
   pub stands : found ≡ some parent
@@ -71,7 +73,7 @@ pub record ParentFacts (cl : Clues) (found : Option Element) (name : ℕ) : Type
   pub high : length (parent .label) < maxDepth
   pub low : given cl parent name ≤ maxComponent
 
--- an entry is accepted at its parent exactly if the facts hold
+-- an entry is accepted at its parent exactly if the facts of refusals 9 to 12 hold
 pub parentCheck-iff : (cl : Clues) (found : Option Element) (name : ℕ) → parentCheck cl found name ≡ none ↔ ParentFacts cl found name
 parentCheck-iff cl none name = (λ e. absurd (Option·some-ne-none _ (sym (parent-nine cl name) ∙ e)), λ f. absurd (Option·none-ne-some _ (f .stands)))
 parentCheck-iff cl (some p) name = (
@@ -91,7 +93,7 @@ parentCheck-iff cl (some p) name = (
   λ f. subst (λ o. parentCheck cl o name ≡ none) (sym (f .stands)) (parent-passed cl (f .parent) name (f .inClue) (f .high) (f .low)),
 )
 
--- what an entry meets at its parent, one of five, each by its facts
+-- what an entry meets at its parent: one of five outcomes, each with its facts
 data Meets (cl : Clues) (found : Option Element) (name : ℕ) : Option Refusal → Type 0 where
   absent : found ≡ none → Meets cl found name (refuse noRecord 0)
   unlisted : (p : Element) → found ≡ some p → (name ∈ cl (p .name) → ⊥) → Meets cl found name (refuse notInClue 0)
@@ -100,7 +102,7 @@ data Meets (cl : Clues) (found : Option Element) (name : ℕ) : Option Refusal �
       Meets cl found name (refuse noNumber 0)
   welcome : Meets cl found name none
 
--- the check answers the one that it meets
+-- the check of an entry's parent gives the outcome whose facts hold
 meets : (cl : Clues) (found : Option Element) (name : ℕ) → Meets cl found name (parentCheck cl found name)
 meets cl none name = rw (parent-nine cl name) (absent refl)
 meets cl (some p) name = go (decide (stands name (cl (p .name))))
@@ -119,7 +121,7 @@ meets cl (some p) name = go (decide (stands name (cl (p .name))))
         rw (parent-ten cl p name absent-name) (unlisted p refl absent-name)
 
 module _ (cl : Clues) (found : Option Element) (name : ℕ) where
-  -- 9 is given exactly if no record was found
+  -- the refusal 9 is given exactly if no record was found
   pub nine-iff : parentCheck cl found name ≡ refuse noRecord 0 ↔ (found ≡ none)
   nine-iff = (told (meets cl found name), λ e. rw e (parent-nine cl name))
     where
@@ -130,7 +132,7 @@ module _ (cl : Clues) (found : Option Element) (name : ℕ) where
       told (spent p e m h k) d = absurd (omega (arith, refuse-number d))
       told welcome d = absurd (Option·none-ne-some _ d)
 
-  -- 10 is given exactly if a record was found and the name isn't in its clue
+  -- the refusal 10 is given exactly if a record was found and the name isn't in its clue
   pub ten-iff : parentCheck cl found name ≡ refuse notInClue 0 ↔ ((p : Element) × (found ≡ some p) × (name ∈ cl (p .name) → ⊥))
   ten-iff = (told (meets cl found name), λ h. rw (h .1) (parent-ten cl (h .0) name (h .2)))
     where
@@ -141,7 +143,7 @@ module _ (cl : Clues) (found : Option Element) (name : ℕ) where
       told (spent p e m h k) d = absurd (omega (arith, refuse-number d))
       told welcome d = absurd (Option·none-ne-some _ d)
 
-  -- 11 is given exactly if the name is in the clue of a record found at depth 15
+  -- the refusal 11 is given exactly if the name is in the clue of a record found at depth 15
   pub eleven-iff : parentCheck cl found name ≡ refuse tooDeep 0 ↔
       ((p : Element) × (found ≡ some p) × name ∈ cl (p .name) × (maxDepth ≤ length (p .label)))
   eleven-iff = (told (meets cl found name), λ h. rw (h .1) (parent-eleven cl (h .0) name (h .2) (h .3)))
@@ -154,7 +156,8 @@ module _ (cl : Clues) (found : Option Element) (name : ℕ) where
       told (spent p e m h k) d = absurd (omega (arith, refuse-number d))
       told welcome d = absurd (Option·none-ne-some _ d)
 
-  -- 12 is given exactly if the name is in the clue of a record found above depth 15 and the number given is over 65,534
+  -- the refusal 12 is given exactly if the name is in the clue of a record found above depth 15
+  -- and the number given is over 65,534
   pub twelve-iff : parentCheck cl found name ≡ refuse noNumber 0 ↔
       ((p : Element) × (found ≡ some p) × name ∈ cl (p .name) × (length (p .label) < maxDepth) × (maxComponent < given cl p name))
   twelve-iff = (told (meets cl found name), λ h. rw (h .1) (parent-twelve cl (h .0) name (h .2) (h .3) (h .4)))
@@ -167,7 +170,7 @@ module _ (cl : Clues) (found : Option Element) (name : ℕ) where
       told (spent p e m h k) d = (p, e, m, h, k)
       told welcome d = absurd (Option·none-ne-some _ d)
 
--- 14 is not given exactly if the label has a component: the root's has none
+-- a deletion is not refused by 14 exactly if its label has a component: the root's has none
 pub rootStays-iff : (l : Label) → rootStaysCheck l ≡ none ↔ (0 < length l)
 unfolding rootStaysCheck
 rootStays-iff l = check-iff (ltb 0 (length l)) rootStays 0 (ltb→lt 0 (length l), lt→ltb 0 (length l))

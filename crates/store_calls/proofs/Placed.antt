@@ -8,7 +8,7 @@ use Prim.Native.Nat.{suc, ℕ, _*_, _<_, _≤_, _+_}
 use lib.ListN.{length}
 use lib.Dec.{ltb, leb, leb→le, ltb→lt, lt→ltb, le→leb}
 use Rattle.basics.specs.Basics.{_∈_}
-use Rattle.basics.specs.Limits.{recordSize, maxElements}
+use Rattle.basics.specs.Limits.{recordSize, maxRecords}
 use Rattle.basics.specs.Refusals.{noSpace}
 use Rattle.labelling.specs.Labels.{Label, within, before}
 use Rattle.storage.specs.Store.{Element}
@@ -17,12 +17,12 @@ use Rattle.basics.proofs.Tests.{and-facts}
 use Rattle.basics.proofs.Lists.{for-cons, here, there}
 use Rattle.basics.proofs.Refusals.{check-iff}
 
--- there is a free record exactly if one more fits the slice and fewer than 4,096 are in use
-pub space-iff : (len count : ℕ) → spaceCheck len count ≡ none ↔ ((recordSize * (count + 1) ≤ len) × (count < maxElements))
+-- a record is free exactly if one more fits the slice and fewer than 4,096 are in use
+pub space-iff : (len count : ℕ) → spaceCheck len count ≡ none ↔ ((recordSize * (count + 1) ≤ len) × (count < maxRecords))
 unfolding spaceCheck
 space-iff len count =
-    check-iff _ noSpace 0 (and-facts (leb (recordSize * (count + 1)) len) (ltb count maxElements)
-    (leb→le (recordSize * (count + 1)) len, le→leb (recordSize * (count + 1)) len) (ltb→lt count maxElements, lt→ltb count maxElements))
+    check-iff _ noSpace 0 (and-facts (leb (recordSize * (count + 1)) len) (ltb count maxRecords)
+    (leb→le (recordSize * (count + 1)) len, le→leb (recordSize * (count + 1)) len) (ltb→lt count maxRecords, lt→ltb count maxRecords))
 
 -- placing adds one element
 pub length-placed : (l : Label) (new : Element) (es : List Element) → length (placed l new es) ≡ suc (length es)
@@ -34,7 +34,7 @@ length-placed l new (e ∷ es) = go (within l (e .label) || before (e .label) l)
     go true below = ap suc below
     go false below = refl
 
--- and no other
+-- what holds of the new element and of the others holds of all after placing
 pub placed-only : (l : Label) (new : Element) (es : List Element) (P : Element → Type 0) → P new → ((e : Element) → e ∈ es → P e) →
     (e : Element) → e ∈ placed l new es → P e
 unfolding placed

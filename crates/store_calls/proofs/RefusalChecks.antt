@@ -9,12 +9,12 @@ pub new-store-refusals : Hold newStoreRefusals
 unfolding computing
 new-store-refusals = refl
 
--- those of an entry
+-- the refusals of an entry have their numbers and places
 pub entry-refusals : Hold entryRefusals
 unfolding computing
 entry-refusals = refl
 
--- and those of a deletion
+-- the refusals of a deletion have their numbers and places
 pub deletion-refusals : Hold deletionRefusals
 unfolding computing
 deletion-refusals = refl

@@ -1,4 +1,4 @@
--- What new store, entry and deletion answer and leave, taken and refused.
+-- What new store, entry and deletion answer and leave, accepted and refused.
 use mathlib.Core.Path.{_≡_, refl, sym, ap, _∙_}
 use mathlib.Core.Logic.{_↔_, Iff·rfl, Iff·trans}
 use mathlib.Core.List.{List, [], _∷_, _++_, append-assoc}
@@ -10,7 +10,7 @@ use lib.Seq.{take-at, drop-at}
 use Rattle.basics.specs.Basics.{elim?, over}
 use Rattle.basics.specs.Limits.{labelSize, recordSize}
 use Rattle.basics.specs.Refusals.{Refusal}
-use Rattle.naming.specs.Names.{cluesOf, tableCheck}
+use Rattle.naming.specs.Names.{Table, cluesOf, tableCheck}
 use Rattle.labelling.specs.Labels.{labelOf, labelWords, labelCheck}
 use Rattle.storage.specs.Store.{Element, elementWords, storeWords, elements, find, elementAt, sizeCheck, soundCheck}
 use Rattle.store_calls.specs.Updates.{Answer, newStoreRefusal, newStore, parentCheck, spaceCheck, entryRefusal, given, entered, enter, rootStaysCheck, foundCheck, deletionRefusal, without, delete}
@@ -23,18 +23,18 @@ use Rattle.storage.proofs.SoundStore.{sound-fit}
 use Rattle.store_calls.proofs.Parents.{ParentFacts, parentCheck-iff}
 use Rattle.store_calls.proofs.Changes.{length-entered, fit-entered, length-without, fit-without}
 
--- the refusal that an answer carries is the one it hangs on
+-- an answer carries the refusal that it hangs on
 pub refusal-of : (o : Option Refusal) (a : Answer) (f : Refusal → Answer) → a .refusal ≡ none → ((r : Refusal) → f r .refusal ≡ some r) →
     elim? o a f .refusal ≡ o
 unfolding elim?
 refusal-of none a f h k = h
 refusal-of (some r) a f h k = k r
 
--- words written over a slice stand at its start, and past them it is as it was
+-- words written over a slice stand at the slice's start, and past them the slice is as it was
 written : (ws out : List ℕ) (n : ℕ) → length ws ≡ n → (take n (over ws out) ≡ ws) × (drop n (over ws out) ≡ drop n out)
 written ws out n e = rw (← e) (take-over ws out, drop-over ws out)
 
--- a slice that holds what is written keeps its length, and so does one that is refused
+-- a slice keeps its length, whether the call is accepted or refused
 length-slice : (o : Option Refusal) (a : Answer) (f : Refusal → Answer) (n : ℕ) → (o ≡ none → length (a .slice) ≡ n) →
     ((r : Refusal) → length (f r .slice) ≡ n) → length (elim? o a f .slice) ≡ n
 unfolding elim?
@@ -73,12 +73,12 @@ newStore-slice ws root p0 p1 = length-slice _ _ _ (length ws)
     length-over (elementWords e0) ws (omega (arith, length-elementWords e0 (omega arith))))
     (λ r. refl)
 
-module _ (rows : List (List ℕ)) (ws : List ℕ) (count : ℕ) (lw : List ℕ) where
-  -- the elements in use
+module _ (rows : Table) (ws : List ℕ) (count : ℕ) (lw : List ℕ) where
+  -- the elements in use before the call
   abbrev es : List Element
   es = elements count ws
 
-  -- every check of an entry passes
+  -- the facts of an accepted entry: each of its checks has passed
   pub record EntryPassed (name : ℕ) : Type 0 where
     pub table : tableCheck rows ≡ none
     pub size : sizeCheck (length ws) count ≡ none
@@ -121,12 +121,12 @@ module _ (rows : List (List ℕ)) (ws : List ℕ) (count : ℕ) (lw : List ℕ) 
       abbrev after : List Element
       after = entered (cluesOf rows) es (below .parent) name p0 p1
 
-      -- the parent is the element that the entry reads
+      -- the parent of an accepted entry is the element that the entry reads
       parent-read : elementAt (labelOf lw) es ≡ below .parent
       unfolding elementAt elim?
       parent-read = rw (below .stands)
 
-      -- the elements after an accepted entry have the words of one record more
+      -- the elements after an accepted entry take the words of one record more
       length-after : length (storeWords after) ≡ recordSize * (count + 1)
       length-after = omega (
         arith,
@@ -160,7 +160,7 @@ module _ (rows : List (List ℕ)) (ws : List ℕ) (count : ℕ) (lw : List ℕ) 
         (length-over (storeWords (after passed)) ws (omega (arith, length-after passed, space-iff (length ws) count .0 (passed .space) .0))))
         (λ r. refl)
 
-  -- every check of a deletion passes
+  -- the facts of an accepted deletion: each of its checks has passed
   pub record DeletionPassed : Type 0 where
     pub table : tableCheck rows ≡ none
     pub size : sizeCheck (length ws) count ≡ none
@@ -188,7 +188,8 @@ module _ (rows : List (List ℕ)) (ws : List ℕ) (count : ℕ) (lw : List ℕ) 
   abbrev left : List Element
   left = without (labelOf lw) es
 
-  -- what an accepted deletion answers and leaves: the records of the elements left, zeros in the freed ones, and past the records in use what stood there
+  -- What an accepted deletion answers and leaves: the records of the elements left, zeros in the freed ones,
+  -- and past the records in use what stood there.
   pub record DeletionTaken (a : Answer) : Type 0 where
     pub counted : a .count ≡ length left
     pub unlabelled : a .label ≡ []
@@ -201,7 +202,7 @@ module _ (rows : List (List ℕ)) (ws : List ℕ) (count : ℕ) (lw : List ℕ) 
   cleared = storeWords left ++ replicate (recordSize * (count - length left)) 0
 
   module _ (passed : DeletionPassed) where
-    -- the elements that a deletion leaves have twenty words each
+    -- the elements that a deletion leaves take twenty words each
     length-left : length (storeWords left) ≡ recordSize * length left
     length-left = length-storeWords left (fit-without (labelOf lw) es (sound-fit (cluesOf rows) ws count (passed .sound)))
 

@@ -17,13 +17,15 @@ benchStore = storeWords (elementOf [] 0 3 10 11 ∷ elementOf (1 ∷ []) 1 2 12 
 unfoldable pub answered : Answer → List ℕ
 answered a = shown (a .refusal) ++ (a .count ∷ (a .label ++ a .slice))
 
+-- examples of new store, entry and deletion
 unfoldable pub updateChecks : List Check
 updateChecks =
     -- a new store writes record 0, and leaves the words past it
     is (answered (newStore (replicate 40 7) 3 8 9)) (1 ∷ (elementWords (elementOf [] 3 0 8 9) ++ replicate 20 7))
-    -- a refused one answers the count 0
+    -- a refused new store answers the count 0
     ∷ is (answered (newStore (replicate 21 7) 3 8 9)) (18 ∷ 0 ∷ 0 ∷ replicate 21 7)
-    -- a note under the first vehicle gets 3 and stands after the test, the second vehicle moves up, and the next number is 4
+    -- A note under the first vehicle gets 3 and stands after the test, the second vehicle moves up,
+    -- and the next number is 4.
     ∷ is (answered (enter shortTable (benchStore ++ replicate 40 7) 4 (labelWords (1 ∷ [])) 5 18 19))
     (5 ∷ (labelWords (1 ∷ 3 ∷ []) ++ (storeWords (
     elementOf [] 0 3 10 11

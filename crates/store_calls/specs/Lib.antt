@@ -1,5 +1,5 @@
--- The calls that write.
+-- The calls that write into a store.
 pub mod Updates
--- Examples.
+-- Examples that the checker works through.
 pub mod RefusalChecks
 pub mod Examples

@@ -9,7 +9,7 @@ use Rattle.storage.specs.Store.{elementWords}
 use Rattle.storage.specs.Examples.{element, deepStore, usedUp, torn}
 use Rattle.store_calls.specs.Updates.{delete, enter, newStore}
 
--- new store 18, 21
+-- the refusals of a new store, by 18 and 21
 unfoldable pub newStoreRefusals : List Check
 newStoreRefusals =
     is (shown (newStore [] 64 0 0 .refusal)) (18 ∷ 0 ∷ [])
@@ -18,7 +18,7 @@ newStoreRefusals =
     ∷ is (shown (newStore (replicate 40 7) 63 0 0 .refusal)) []
     ∷ []
 
--- entry 22, 18, 19, 15, 9, 10, 11, 12, 13
+-- the refusals of an entry, by 22, 18, 19, 15, 9, 10, 11, 12 and 13
 unfoldable pub entryRefusals : List Check
 entryRefusals =
     is (shown (enter tornTable [] 0 [] 0 0 0 .refusal)) (22 ∷ 0 ∷ [])
@@ -37,7 +37,7 @@ entryRefusals =
     ∷ is (shown (enter loopTable deepStore 16 (labelWords (replicate 14 0)) 0 0 0 .refusal)) []
     ∷ []
 
--- deletion 22, 18, 19, 15, 14, 9
+-- the refusals of a deletion, by 22, 18, 19, 15, 14 and 9
 unfoldable pub deletionRefusals : List Check
 deletionRefusals =
     is (shown (delete tornTable [] 0 [] .refusal)) (22 ∷ 0 ∷ [])

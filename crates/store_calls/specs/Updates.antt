@@ -6,9 +6,9 @@ use Prim.Native.Nat.{ℕ, _+_, _-_, _*_}
 use lib.ListN.{length, replicate}
 use lib.Dec.{ltb, leb}
 use Rattle.basics.specs.Basics.{elim?, keep, over}
-use Rattle.basics.specs.Limits.{maxComponent, maxDepth, maxElements, labelSize, recordSize}
+use Rattle.basics.specs.Limits.{maxComponent, maxDepth, maxRecords, labelSize, recordSize}
 use Rattle.basics.specs.Refusals.{Refusal, refuse, check, first, noRecord, notInClue, tooDeep, noNumber, noSpace, rootStays, storeSize}
-use Rattle.naming.specs.Names.{Clues, cluesOf, placeIn, tableCheck, rootCheck}
+use Rattle.naming.specs.Names.{Table, Clues, cluesOf, placeIn, tableCheck, rootCheck}
 use Rattle.labelling.specs.Numbers.{number}
 use Rattle.labelling.specs.Labels.{Label, before, within, same, labelOf, labelWords, labelCheck}
 use Rattle.storage.specs.Store.{Element, elementWords, storeWords, elements, find, elementAt, isSlice, sizeCheck, soundCheck}
@@ -36,7 +36,8 @@ newStore ws root p0 p1 =
     })
     (λ r. record { refusal = some r; count = 0; label = []; slice = ws })
 
--- what an entry asks of its parent: 9 no such record, 10 the name isn't in its clue, 11 it is at depth 15, 12 no number is left
+-- What an entry asks of its parent: 9 for no such record, 10 for a name not in the parent's clue,
+-- 11 for a parent at depth 15, 12 where no number is left.
 unfoldable pub parentCheck : Clues → Option Element → ℕ → Option Refusal
 parentCheck cl none name = refuse noRecord 0
 parentCheck cl (some p) name =
@@ -46,12 +47,12 @@ parentCheck cl (some p) name =
     ∷ check (leb (number (length (cl (p .name))) k (p .next)) maxComponent) noNumber 0
     ∷ []))
 
--- the check for a free record, 13
+-- the check for a free record, which refuses by 13
 unfoldable pub spaceCheck : ℕ → ℕ → Option Refusal
-spaceCheck len count = check (leb (recordSize * (count + 1)) len && ltb count maxElements) noSpace 0
+spaceCheck len count = check (leb (recordSize * (count + 1)) len && ltb count maxRecords) noSpace 0
 
 -- an entry is refused by 22, 18, 19, 15, 9, 10, 11, 12, 13, in this order
-unfoldable pub entryRefusal : List (List ℕ) → List ℕ → ℕ → List ℕ → ℕ → Option Refusal
+unfoldable pub entryRefusal : Table → List ℕ → ℕ → List ℕ → ℕ → Option Refusal
 entryRefusal rows ws count lw name =
     first
     (tableCheck rows
@@ -66,11 +67,17 @@ entryRefusal rows ws count lw name =
 unfoldable pub given : Clues → Element → ℕ → ℕ
 given cl p name = elim? (placeIn name (cl (p .name))) 0 (λ k. number (length (cl (p .name))) k (p .next))
 
--- the next number of the element with a label moves, no other
+-- an element, its next number moved to f where it has the label l, and else as it was
 unfoldable pub raised : Label → ℕ → Element → Element
-raised l f e = record { label = e .label; name = e .name; next = cond (same (e .label) l) f (e .next); payload0 = e .payload0; payload1 = e .payload1 }
+raised l f e = record {
+  label = e .label;
+  name = e .name;
+  next = cond (same (e .label) l) f (e .next);
+  payload0 = e .payload0;
+  payload1 = e .payload1;
+}
 
--- a new element after its parent's whole subtree, later ones moved up
+-- a new element placed after its parent's whole subtree, later elements moved up
 unfoldable pub placed : Label → Element → List Element → List Element
 placed l new [] = new ∷ []
 placed l new (e ∷ es) =
@@ -84,7 +91,7 @@ entered cl es p name p0 p1 =
     (map (raised (p .label) (given cl p name + 1)) es)
 
 -- an entry answers the new count and the new label; a refusal the count it was given and sixteen zeros
-unfoldable pub enter : List (List ℕ) → List ℕ → ℕ → List ℕ → ℕ → ℕ → ℕ → Answer
+unfoldable pub enter : Table → List ℕ → ℕ → List ℕ → ℕ → ℕ → ℕ → Answer
 enter rows ws count lw name p0 p1 =
     let es = elements count ws in
     let p = elementAt (labelOf lw) es in
@@ -97,17 +104,17 @@ enter rows ws count lw name p0 p1 =
     })
     (λ r. record { refusal = some r; count = count; label = replicate labelSize 0; slice = ws })
 
--- the check that a label isn't the root's, 14
+-- the check that a label isn't the root's, which refuses by 14
 unfoldable pub rootStaysCheck : Label → Option Refusal
 rootStaysCheck l = check (ltb 0 (length l)) rootStays 0
 
--- the check that a record was found, 9
+-- the check that a record was found, which refuses by 9
 unfoldable pub foundCheck : {A : Type 0} → Option A → Option Refusal
 foundCheck none = refuse noRecord 0
 foundCheck (some a) = none
 
 -- a deletion is refused by 22, 18, 19, 15, 14, 9, in this order
-unfoldable pub deletionRefusal : List (List ℕ) → List ℕ → ℕ → List ℕ → Option Refusal
+unfoldable pub deletionRefusal : Table → List ℕ → ℕ → List ℕ → Option Refusal
 deletionRefusal rows ws count lw =
     first
     (tableCheck rows
@@ -122,8 +129,9 @@ deletionRefusal rows ws count lw =
 unfoldable pub without : Label → List Element → List Element
 without l = keep (λ e. not (within l (e .label)))
 
--- a deletion closes the gap, fills the freed records with zeros and answers the new count
-unfoldable pub delete : List (List ℕ) → List ℕ → ℕ → List ℕ → Answer
+-- a deletion closes the gap, fills the freed records with zeros and answers the new count;
+-- a refusal answers the count it was given
+unfoldable pub delete : Table → List ℕ → ℕ → List ℕ → Answer
 delete rows ws count lw =
     let left = without (labelOf lw) (elements count ws) in
     elim? (deletionRefusal rows ws count lw)

@@ -4,9 +4,9 @@ use mathlib.Core.Option.{Option}
 use Prim.Native.Nat.{ℕ}
 use lib.ListN.{length}
 use Rattle.basics.specs.Refusals.{Refusal, first}
-use Rattle.naming.specs.Names.{cluesOf, tableCheck}
+use Rattle.naming.specs.Names.{Table, cluesOf, tableCheck}
 use Rattle.storage.specs.Store.{sizeCheck, soundCheck}
 
--- the checks of table, sizes and records, 22, 18, 19, in this order
-unfoldable pub storeCheck : List (List ℕ) → List ℕ → ℕ → Option Refusal
+-- the checks of table, sizes and records, in this order: 22, 18, 19
+unfoldable pub storeCheck : Table → List ℕ → ℕ → Option Refusal
 storeCheck rows ws count = first (tableCheck rows ∷ sizeCheck (length ws) count ∷ soundCheck (cluesOf rows) count ws ∷ [])

@@ -11,10 +11,10 @@ ghost use Rattle.basics.specs.Basics.{joined};
 ghost use Rattle.table_bytes.specs.Rows.{rowsIn, tableIn};
 ghost use Rattle.words.specs.Writing.{written};
 
-// A table as bytes: sixty-four rows of sixty-four.
+// How many bytes a table has: sixty-four rows of sixty-four.
 pub const TABLE_BYTES: usize = 4096;
 
-// No name has this number, and no table holds it.
+// A number that is no name, and that no table holds.
 const NO_NAME: u8 = 64;
 
 // Sixty-four bytes as a row.
@@ -31,7 +31,7 @@ fn row_of(bytes: &[u8]) -> [u8; 64]
     row
 }
 
-// A table whose rows stand one after the other.
+// The table whose rows stand one after the other in its bytes.
 fn table_of(bytes: &[u8]) -> Table
     requires { ⌜ length (now bytes) ≡ 64 * 64 ⌝ }
     ensures { λ r. ⌜ r ≡ rowsIn (now (bytes .entry)) ⌝ }
@@ -46,7 +46,7 @@ fn table_of(bytes: &[u8]) -> Table
     table
 }
 
-// The table that bytes are; other than 4,096 of them are a table that 22 rules out.
+// The table that bytes are taken as; other than 4,096 bytes are a table that 22 rules out.
 pub fn table_in(bytes: &[u8]) -> Table
     ensures { λ r. ⌜ r ≡ tableIn (now (bytes .entry)) ⌝ }
 {
@@ -56,7 +56,7 @@ pub fn table_in(bytes: &[u8]) -> Table
     table_of(bytes)
 }
 
-// A row, written to bytes from a place on.
+// Writes a row to bytes from a place on.
 fn put_row(row: &[u8], bytes: &mut [u8], at: usize)
     requires { ⌜ (length (now row) ≡ 64) × (at + 64 ≤ length (now bytes)) ⌝ }
     ensures { λ u. ⌜ now (bytes .exit) ≡ written at (now (row .entry)) (now (bytes .entry)) ⌝ }
@@ -68,7 +68,7 @@ fn put_row(row: &[u8], bytes: &mut [u8], at: usize)
     }
 }
 
-// A table, its rows one after the other.
+// Writes a table to bytes, its rows one after the other.
 pub fn put_table(table: &Table, bytes: &mut [u8])
     requires { ⌜ length (now bytes) ≡ 64 * 64 ⌝ }
     ensures { λ u. ⌜ now (bytes .exit) ≡ joined (now (table .entry)) ⌝ }

@@ -1,4 +1,4 @@
--- The check of a table: a test of every row, and of each row that its names are names, each once, and the rest is filling.
+-- The check of a table: a test of every row. In a row the names are names, each once, and the rest is filler.
 use Prim.Native.Nat.{ℕ, zero, suc, _+_, _-_, _<_, _≤_}
 use mathlib.Core.Path.{_≡_, refl, sym, ap, _∙_}
 use mathlib.Core.List.{List, [], _∷_}
@@ -13,7 +13,7 @@ use borrow.Author.Tests.{le-leb, lt-leb, eq-eqb, ne-eqb, not-true, not-false}
 use Rattle.basics.specs.Basics.{all, stands}
 use Rattle.basics.specs.Limits.{maxName, tableSize, filler}
 use Rattle.basics.specs.Refusals.{badTable, refuse, check}
-use Rattle.naming.specs.Names.{isName, namesOf, twice, goodRow, tableCheck}
+use Rattle.naming.specs.Names.{Table, isName, namesOf, twice, goodRow, tableCheck}
 use Rattle.basics.proofs.Tests.{Tells, passes, fails, eq?}
 use Rattle.basics.proofs.Scans.{from-cons, tail-is, all-end, all-stop, all-on}
 use Rattle.refusals.specs.Answers.{verdictOf}
@@ -22,11 +22,11 @@ use Rattle.refusals.specs.declared.Verdict.the-variants as verdict
 use Rattle.names.proofs.Rows.{take-names, names-short}
 use Rattle.table_checks.specs.Rows.{isFiller}
 
--- every number is a name, and none stands twice
+-- the test of names: every number is a name, and none stands twice
 abbrev pub once : List ℕ → Bool
 once l = all isName l && not (twice l)
 
--- a number is not marked
+-- the test of a number: whether it is not marked
 abbrev pub unmarked : List Bool → ℕ → Bool
 unmarked seen x = not (getD seen x false)
 
@@ -62,7 +62,7 @@ mark-more seen x h (y ∷ l) = rw (marked-at seen x y h, mark-more seen x h l) (
     go false true s = sym (and-false (not s))
     go false false s = refl
 
--- marks of the names before index i
+-- marks for the names before index i of a list
 module _ (names : List ℕ) (i : ℕ) (seen : List Bool) where
   -- the names left are names, each once, and none of them is marked
   abbrev pub Marked : Type 0
@@ -75,17 +75,17 @@ module _ (names : List ℕ) (i : ℕ) (seen : List Bool) where
     mark-end h = rw (inv, drop-of-length-le)
 
     module _ (h : i < length names) where
-      -- a number is no name
+      -- a number above 63 fails the test of names
       pub mark-high : maxName < getD names i 0 → false ≡ once names
       unfolding all isName
       mark-high k = rw (inv, from-cons names i 0, lt-leb _ _ k)
 
-      -- a name is marked already
+      -- a name that is marked already fails the test of names
       pub mark-again : getD seen (getD names i 0) false ≡ true → false ≡ once names
       unfolding all
       mark-again e = rw (inv, from-cons names i 0, e) (sym (and-false (once (getD names i 0 ∷ drop (i + 1) names))))
 
-      -- a name is marked
+      -- a name that is not marked yet is marked, and the test goes on
       pub mark-on : length seen ≡ tableSize → getD names i 0 ≤ maxName → getD seen (getD names i 0) false ≡ false →
           once names ≡ (once (drop (i + 1) names) && all (unmarked (set seen (getD names i 0) true)) (drop (i + 1) names))
       unfolding all isName twice
@@ -104,27 +104,27 @@ module _ (names : List ℕ) (i : ℕ) (seen : List Bool) where
 pub mark-from : (names : List ℕ) → Marked names 0 (replicate tableSize false)
 mark-from names = rw (none-marked tableSize names) (sym (and-true (once names)))
 
--- the least number before index i, the filling if there is none
+-- the least number before index i, the filler if there is none
 module _ (row : List ℕ) (i least : ℕ) where
-  -- the row is filling alone if the least is filling and the rest is
+  -- the row is filler alone if the least number before i is the filler and the rest is filler alone
   abbrev pub Least : Type 0
   Least = all isFiller row ≡ (eqb least filler && all isFiller (drop i row))
 
   module _ (inv : Least) where
-    -- at the end the least tells
+    -- at the end of the row the least number tells whether the row is filler alone
     pub least-end : length row ≤ i → eqb least filler ≡ all isFiller row
     unfolding all
     least-end h = rw (inv, drop-of-length-le) (sym (and-true (eqb least filler)))
 
     module _ (h : i < length row) where
-      -- a number below the least is not the filling
+      -- a number below the least so far is not the filler
       pub least-less : least ≤ filler → getD row i 0 < least → {n : ℕ} → n ≡ getD row i 0 → all isFiller row ≡ (eqb n filler && all isFiller (drop (i + 1) row))
       unfolding all
       least-less low k e =
           let other : eqb (getD row i 0) filler ≡ false = ne-eqb (getD row i 0) filler (λ z. omega arith) in
           rw (inv, from-cons row i 0, e, other) (and-false (eqb least filler))
 
-      -- any other byte is filling if the least is
+      -- a byte that is not below the least so far is filler if the least is
       pub least-same : least ≤ getD row i 0 → Fits w8 (getD row i 0) → {n : ℕ} → n ≡ least → all isFiller row ≡ (eqb n filler && all isFiller (drop (i + 1) row))
       unfolding all
       least-same k b e = rw (inv, from-cons row i 0, e) (go (eqb least filler) (eq? least filler))
@@ -133,7 +133,7 @@ module _ (row : List ℕ) (i least : ℕ) where
           go t (passes z) = let full : eqb (getD row i 0) filler ≡ true = eq-eqb (getD row i 0) filler (omega arith) in rw full
           go t (fails z) = refl
 
--- a row cut in two: n is how many names it has
+-- a row of n names, cut behind its names
 module _ (row : List ℕ) {n : ℕ} (is : n ≡ length (namesOf row)) where
   -- a row has no fewer places than names
   pub cut-in : n ≤ length row
@@ -143,9 +143,9 @@ module _ (row : List ℕ) {n : ℕ} (is : n ≡ length (namesOf row)) where
   pub cut-long : n ≡ length (take n row)
   cut-long = rw (length-take n row) (omega (arith, cut-in))
 
-  -- x tells of the first part that its numbers are names, each once
+  -- the test of names on the first part answers x
   module _ {x : Bool} (told : x ≡ once (take n row)) where
-    -- the row is good if besides the second part is filling alone
+    -- the row is good if the first part passes and the second is filler alone
     cut-good : (x && all isFiller (drop n row)) ≡ goodRow row
     unfolding goodRow
     cut-good = rw (told, is, take-names row) (go (all isName (namesOf row)) (twice (namesOf row)) (all isFiller (drop (length (namesOf row)) row)))
@@ -154,17 +154,17 @@ module _ (row : List ℕ) {n : ℕ} (is : n ≡ length (namesOf row)) where
         go true t f = and-comm (not t) f
         go false t f = refl
 
-    -- the first part fails
+    -- where the first part fails, the row is not good
     pub cut-not : x ≡ false → x ≡ goodRow row
     cut-not e = rw (← cut-good, e)
 
-    -- the first part passes: the second decides
+    -- where the first part passes, the second decides
     pub cut-rest : x ≡ true → {y : Bool} → y ≡ all isFiller (take (length row - n) (drop n row)) → y ≡ goodRow row
     cut-rest e f = rw (← cut-good, e, ← tail-is n row) f
 
--- a table tested: the rows before p are good
-module _ (table : List (List ℕ)) {rows : List (List ℕ)} (same : rows ≡ table) (p : ℕ) (inv : all goodRow rows ≡ all goodRow (drop p rows)) where
-  -- every row is good
+-- a table of which the rows before p are good
+module _ (table : Table) {rows : Table} (same : rows ≡ table) (p : ℕ) (inv : all goodRow rows ≡ all goodRow (drop p rows)) where
+  -- where all rows are good, the table passes
   pub table-end : length rows ≤ p → verdict.Passed ≡ verdictOf (tableCheck table)
   unfolding tableCheck check
   table-end h = rw (← same, ← all-end goodRow rows p inv h)

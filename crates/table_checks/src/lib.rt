@@ -1,4 +1,4 @@
-// The check of a table: each row holds names, each once, and then the filling alone.
+// The check of a table: each row holds names, each once, and then the filler alone.
 use names::FILLER;
 use names::MAX_NAME;
 use names::Table;
@@ -11,13 +11,13 @@ use refusals::refuse;
 ghost use mathlib.Core.Path.{_≡_};
 ghost use mathlib.Core.Bool.{_&&_, not};
 ghost use Rattle.basics.specs.Basics.{all};
-ghost use Rattle.naming.specs.Names as model;
+ghost use Rattle.naming.specs.Names as spec;
 ghost use Rattle.refusals.specs.Answers.{verdictOf};
 ghost use Rattle.table_checks.specs.Rows.{isFiller};
 
 // Every number is a name, and none stands twice.
 fn names_once(names: &[u8]) -> bool
-    ensures { λ r. ⌜ r ≡ (all model.isName (now (names .entry)) && not (model.twice (now (names .entry)))) ⌝ }
+    ensures { λ r. ⌜ r ≡ (all spec.isName (now (names .entry)) && not (spec.twice (now (names .entry)))) ⌝ }
 {
     let mut seen = [false; 64];
     let mut i: usize = 0;
@@ -36,7 +36,8 @@ fn names_once(names: &[u8]) -> bool
     true
 }
 
-// Every number is the filling: the least is, and no byte is greater. The loop has no exit, so it may take many bytes a step.
+// Every number is the filler: the least is, and no byte is greater.
+// The loop has no exit, so it may take many bytes a step.
 fn all_filler(rest: &[u8]) -> bool
     ensures { λ r. ⌜ r ≡ all isFiller (now (rest .entry)) ⌝ }
 {
@@ -52,18 +53,18 @@ fn all_filler(rest: &[u8]) -> bool
     least == FILLER
 }
 
-// A row holds names, each once, and then the filling alone. Asked of a whole row first, the filling would be a loop of a known length, which the compiler
-// may unroll byte by byte.
+// A row holds names, each once, and then the filler alone. Asked of a whole row first,
+// the filler would be a loop of a known length, which the compiler may unroll byte by byte.
 fn row_good(row: &[u8]) -> bool
-    ensures { λ r. ⌜ r ≡ model.goodRow (now (row .entry)) ⌝ }
+    ensures { λ r. ⌜ r ≡ spec.goodRow (now (row .entry)) ⌝ }
 {
     let n = row_len(row);
     names_once(&row[..n]) && all_filler(&row[n..])
 }
 
-// The check of a lent table, 22.
-pub fn table_check(table: &Table) -> Verdict
-    ensures { λ r. ⌜ r ≡ verdictOf (model.tableCheck (now (table .entry))) ⌝ }
+// The check of a lent table: 22.
+pub fn table_verdict(table: &Table) -> Verdict
+    ensures { λ r. ⌜ r ≡ verdictOf (spec.tableCheck (now (table .entry))) ⌝ }
 {
     let rows = rows_of(table);
     let mut p: usize = 0;
@@ -77,9 +78,9 @@ pub fn table_check(table: &Table) -> Verdict
     Verdict::Passed
 }
 
-// The check of a table, 22.
+// The check of a table: 22.
 pub fn check_table(table: Table) -> Verdict
-    ensures { λ r. ⌜ r ≡ verdictOf (model.tableCheck table) ⌝ }
+    ensures { λ r. ⌜ r ≡ verdictOf (spec.tableCheck table) ⌝ }
 {
-    table_check(&table)
+    table_verdict(&table)
 }

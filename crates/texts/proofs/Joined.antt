@@ -1,5 +1,4 @@
 -- Texts parted by a byte, written one after another: those behind the first, each with the byte before it.
--- Assumes nothing.
 use mathlib.Core.Path.{_≡_, refl, ap, _∙_}
 use mathlib.Core.List.{List, [], _∷_, _++_, append-assoc}
 use Prim.Native.Nat.{ℕ, _+_, _≤_}
@@ -22,24 +21,24 @@ joined-tailed by end t (u ∷ ts) =
 
 module _ {at₀ at : ℕ} {whole text₀ text : List ℕ} (by : ℕ) (end t : List ℕ) (ts : List (List ℕ))
     (p : Pending at₀ whole text₀ at (tailed by end (t ∷ ts)) text) where
-  -- the byte and what stands behind it
+  -- what is to come is the byte, the text behind it, and the others
   parted : Pending at₀ whole text₀ at ((by ∷ []) ++ (t ++ tailed by end ts)) text
   unfolding tailed
   parted = p
 
-  -- there is room for the byte
+  -- the text has room for the byte
   pub byte-room : at + 1 ≤ length text
   byte-room = pending-room (by ∷ []) (t ++ tailed by end ts) parted
 
   module _ {r : ℕ} {next : List ℕ} (e : r ≡ at + 1) (f : next ≡ written at (by ∷ []) text) where
-    -- which is written
+    -- with the byte written, the text behind it and the others are to come
     byte-put : Pending at₀ whole text₀ r (t ++ tailed by end ts) next
     byte-put = pending-more (by ∷ []) (t ++ tailed by end ts) parted e f
 
-    -- there is room for the text behind it
+    -- with the byte written, the text has room for what stands behind it
     pub text-room : r + length t ≤ length next
     text-room = pending-room t (tailed by end ts) byte-put
 
-    -- which is written
+    -- with a text written behind its byte, the others are to come
     pub text-put : {r' : ℕ} {next' : List ℕ} → r' ≡ r + length t → next' ≡ written r t next → Pending at₀ whole text₀ r' (tailed by end ts) next'
     text-put = pending-more t (tailed by end ts) byte-put

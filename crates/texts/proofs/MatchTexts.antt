@@ -1,5 +1,4 @@
 -- The text of the matches that words hold, written line by line.
--- Assumes nothing.
 use mathlib.Core.Path.{_≡_, _∙_}
 use mathlib.Core.List.{List, _++_, map, append-assoc}
 use Prim.Native.Nat.{ℕ, suc, _+_, _-_, _*_, _^_, _≤_, _<_}
@@ -14,7 +13,7 @@ use Rattle.match_calls.specs.Matching.{labelsIn}
 use Rattle.printouts.specs.Printing.{matchLine, matchesText}
 use Rattle.basics.proofs.Scans.{tail-is}
 use Rattle.words.specs.Writing.{written}
-use Rattle.texts.specs.Texts.{numberLine, matchesIn, Depths, labelRoom, countRoom}
+use Rattle.texts.specs.Texts.{numberLine, matchesIn, LabelDepths, labelRoom, countRoom}
 use Rattle.words.proofs.Writing.{written-over}
 use Rattle.texts.proofs.Texts.{Pending, pending-all, pending-room, pending-more}
 use Rattle.texts.proofs.LineTexts.{from}
@@ -26,22 +25,22 @@ unfoldable pub lines : ℕ → ℕ → List ℕ → ℕ → List ℕ
 lines k count ws i = joined (map matchLine (matchesIn k (count - i) (drop (labelSize * (k * i)) ws))) ++ numberLine count
 
 module _ (k count : ℕ) where
-  -- a match has its labels among those of all
+  -- the labels of a match are among those of all matches
   labels-in : (i : ℕ) → i < count → k * i + k ≤ k * count
   labels-in i h = omega (arith, mul-suc k i, mul-le-mul-left k h)
 
-  -- the labels before a match, and those before the next
+  -- before match i + 1 stand the labels before match i, and its own k
   labels-next : (i : ℕ) → k * (i + 1) ≡ k * i + k
   labels-next i = rw add-one (mul-suc k i)
 
   module _ (ws : List ℕ) where
-    -- the lines of all and of their count are the whole text
+    -- the lines of all matches and of their count are the whole text
     lines-all : lines k count ws 0 ≡ matchesText (matchesIn k count ws)
     unfolding lines matchesText
     lines-all = let z : count - 0 ≡ count = omega arith in rw (z, mul-zero, length-matchesIn k count ws)
 
-    -- at the start all are to come
-    pub matches-start : (text₀ : List ℕ) → 1 ≤ k → count < 2 ^ 64 → Small ws → Depths (k * count) ws → labelRoom * (k * count) + countRoom ≤ length text₀ →
+    -- at the start all lines are to come
+    pub matches-start : (text₀ : List ℕ) → 1 ≤ k → count < 2 ^ 64 → Small ws → LabelDepths (k * count) ws → labelRoom * (k * count) + countRoom ≤ length text₀ →
         Pending 0 (matchesText (matchesIn k count ws)) text₀ 0 (lines k count ws 0) text₀
     matches-start text₀ some few small deep room =
         rw lines-all (pending-all 0 (matchesText (matchesIn k count ws)) text₀ (omega (arith, matches-short k some count ws few small deep)))
@@ -52,7 +51,7 @@ module _ (k count : ℕ) where
       match-in = omega (arith, labels-in i h)
 
       module _ (room : length ws * 2 < 2 ^ 63) where
-        -- so its place in labels, in words and in bytes has sixty-three bits
+        -- the place of a match, counted in labels, in words and in bytes, has sixty-three bits
         pub labels-fit : k * i < 2 ^ 63
         labels-fit = omega (arith, match-in)
 
@@ -62,15 +61,15 @@ module _ (k count : ℕ) where
         pub bytes-fit : labelSize * (k * i) * 2 < 2 ^ 63
         bytes-fit = omega (arith, match-in)
 
-      -- it has its words
+      -- the words of a match are all there
       pub match-held : labelSize * k ≤ length (from ws (labelSize * (k * i)))
       match-held = rw tail-is (omega (arith, labels-in i h, length-drop (labelSize * (k * i)) ws))
 
-      -- and its labels are as deep as they were
-      pub match-deep : Depths (k * count) ws → Depths k (from ws (labelSize * (k * i)))
+      -- the labels of a match are as deep as they stand among all words
+      pub match-deep : LabelDepths (k * count) ws → LabelDepths k (from ws (labelSize * (k * i)))
       match-deep deep = rw tail-is (depths-drop (k * i) k ws (λ j p. deep j (omega (arith, labels-in i h))))
 
-    -- from a match on there are that and those behind it
+    -- the lines from a match on are that match's and those behind it
     lines-from : (i : ℕ) → i < count → lines k count ws i ≡ matchLine (labelsIn k (from ws (labelSize * (k * i)))) ++ lines k count ws (i + 1)
     unfolding lines matchesIn joined
     lines-from i h =
@@ -80,18 +79,18 @@ module _ (k count : ℕ) where
         (append-assoc (matchLine (labelsIn k (drop (labelSize * (k * i)) ws)))
         (joined (map matchLine (matchesIn k (count - (i + 1)) (drop (labelSize * (k * (i + 1))) ws)))) (numberLine count))
 
-    -- lines are to come
+    -- lines from i on are to come
     module _ {at₀ : ℕ} {whole text₀ : List ℕ} (i end : ℕ) (text₁ : List ℕ) (inv : Pending at₀ whole text₀ end (lines k count ws i) text₁) where
       module _ (h : i < count) where
-        -- a line is next
+        -- the line of match i is next
         next-pending : Pending at₀ whole text₀ end (matchLine (labelsIn k (from ws (labelSize * (k * i)))) ++ lines k count ws (i + 1)) text₁
         next-pending = rw (← lines-from i h) inv
 
-        -- there is room for it
+        -- the text has room for the next line
         pub line-room : end + length (matchLine (labelsIn k (from ws (labelSize * (k * i))))) ≤ length text₁
         line-room = pending-room (matchLine (labelsIn k (from ws (labelSize * (k * i))))) (lines k count ws (i + 1)) next-pending
 
-        -- it is written
+        -- with the next line written, those behind it are to come
         pub line-put : {r : ℕ} {next : List ℕ} → r ≡ end + length (matchLine (labelsIn k (from ws (labelSize * (k * i))))) →
             next ≡ written end (matchLine (labelsIn k (from ws (labelSize * (k * i))))) text₁ → Pending at₀ whole text₀ r (lines k count ws (i + 1)) next
         line-put = pending-more (matchLine (labelsIn k (from ws (labelSize * (k * i))))) (lines k count ws (i + 1)) next-pending
@@ -102,7 +101,7 @@ module _ (k count : ℕ) where
         unfolding lines matchesIn joined
         count-pending = let z : count - i ≡ 0 = omega arith in rw z at inv
 
-        -- there is room for it
+        -- the text has room for the count
         pub count-room : end + length (numberLine count) ≤ length text₁
         count-room = omega (arith, count-pending)
 
@@ -111,6 +110,6 @@ module _ (k count : ℕ) where
       pub matches-reach : {r : ℕ} → r ≡ end + length (numberLine count) → r ≡ length (matchesText (matchesIn k count ws))
       matches-reach e = omega (arith, count-pending i end text₁ inv done .reach)
 
-      -- and what they leave
+      -- what the matches and their count leave when written
       pub matches-put : {next : List ℕ} → next ≡ written end (numberLine count) text₁ → next ≡ over (matchesText (matchesIn k count ws)) text₀
       matches-put f = f ∙ rw (← count-pending i end text₁ inv done .left) (written-over (matchesText (matchesIn k count ws)) text₀)

@@ -1,10 +1,11 @@
 -- How many bytes the matches of words have at most, each word being of sixteen bits.
--- Assumes nothing.
 use mathlib.Core.Path.{_≡_, refl, ap}
 use mathlib.Core.List.{List, [], _∷_, _++_, map, append-nil}
 use Prim.Native.Nat.{ℕ, zero, suc, _+_, _*_, _^_, _≤_, _<_}
 use native.Mathlib.Nat.{mul-zero, mul-suc}
 use native.Mathlib.Omega.{arith}
+use mir.Syntax.{w16}
+use mir.Val.{Fits}
 use lib.ListN.{length, getD, take, drop, length-append, length-map, length-take}
 use lib.Seq.{getD-take, getD-drop}
 use Rattle.basics.specs.Basics.{_∈_, joined}
@@ -15,25 +16,25 @@ use Rattle.match_calls.specs.Matching.{labelsIn}
 use Rattle.printouts.specs.Printing.{text, decimal, joinedBy, labelText, matchLine, matchesText}
 use Rattle.basics.proofs.Lists.{here, there, nowhere, for-cons, for-map, member-at}
 use Rattle.labelling.proofs.LabelWords.{labelOf-take}
-use Rattle.texts.specs.Texts.{numberLine, matchesIn, Depths, labelRoom, countRoom}
+use Rattle.texts.specs.Texts.{numberLine, matchesIn, LabelDepths, labelRoom, countRoom}
 use Rattle.match_calls.proofs.Buffers.{length-labelsIn}
 use Rattle.texts.proofs.Words.{length-matchesIn, depths-drop}
 use Rattle.texts.proofs.Digits.{decimal-short}
 use Rattle.texts.proofs.Joined.{tailed, joined-tailed}
 
--- a number of sixty-four bits on a line
+-- the line of a number of sixty-four bits has at most twenty-one bytes
 pub number-line-short : (n : ℕ) → n < 2 ^ 64 → length (numberLine n) ≤ countRoom
 unfolding text
 number-line-short n h = omega (arith, length-append (decimal n) (10 ∷ []), decimal-short 19 n (omega arith))
 
--- texts of fewer than n bytes each, with a byte before each
+-- texts of fewer than n bytes each, with a byte before each, have at most n bytes for each
 tailed-short : (by : ℕ) (end : List ℕ) (n : ℕ) (ts : List (List ℕ)) → ((t : List ℕ) → t ∈ ts → length t < n) → length (tailed by end ts) ≤ n * length ts + length end
 unfolding tailed
 tailed-short by end n [] h = omega (arith, mul-zero n)
 tailed-short by end n (t ∷ ts) h =
     omega (arith, mul-suc n (length ts), length-append t (tailed by end ts), h t (here refl), tailed-short by end n ts (λ u m. h u (there m)))
 
--- and so joined by the byte
+-- texts of fewer than n bytes each, joined by a byte, have fewer than n bytes for each
 joined-short : (by : ℕ) (end : List ℕ) (n : ℕ) (t : List ℕ) (ts : List (List ℕ)) → ((u : List ℕ) → u ∈ t ∷ ts → length u < n) →
     length (joinedBy (by ∷ []) (t ∷ ts) ++ end) < n * length (t ∷ ts) + length end
 joined-short by end n t ts h =
@@ -46,7 +47,7 @@ joined-short by end n t ts h =
       tailed-short by end n ts (λ u m. h u (there m)),
     )
 
--- a label of at most fifteen components of sixteen bits
+-- a label of at most fifteen components of sixteen bits has fewer than ninety bytes
 pub label-short : (l : Label) → length l ≤ maxDepth → ((x : ℕ) → x ∈ l → x < 2 ^ 16) → length (labelText l) < labelRoom
 unfolding labelText text
 label-short [] h small = omega arith
@@ -56,7 +57,7 @@ label-short (x ∷ l) h small =
     let e : labelText (x ∷ l) ++ [] ≡ labelText (x ∷ l) = append-nil (labelText (x ∷ l)) in
     omega (arith, ap length e, joined-short 46 [] 6 (decimal x) (map decimal l) each, length-map l decimal)
 
--- a match of such labels
+-- a match of labels of fewer than ninety bytes has a line of at most ninety bytes for each
 line-short : (l : Label) (m : Match) → ((a : Label) → a ∈ l ∷ m → length (labelText a) < labelRoom) → length (matchLine (l ∷ m)) ≤ labelRoom * length (l ∷ m)
 unfolding matchLine text
 line-short l m h =
@@ -64,13 +65,13 @@ line-short l m h =
 
 -- each word has sixteen bits
 abbrev pub Small : List ℕ → Type 0
-Small ws = (i : ℕ) → getD ws i 0 < 2 ^ 16
+Small ws = (i : ℕ) → Fits w16 (getD ws i 0)
 
--- and so each behind some of them
+-- words behind others have sixteen bits too
 small-drop : (n : ℕ) (ws : List ℕ) → Small ws → Small (drop n ws)
 small-drop n ws small i = rw (getD-drop) (small (n + i))
 
--- the first label that words hold
+-- the first label that words hold has fewer than ninety bytes
 first-short : (ws : List ℕ) → Small ws → getD ws 0 0 ≤ maxDepth → length (labelText (labelOf ws)) < labelRoom
 unfolding labelOf
 first-short ws small deep =
@@ -78,10 +79,10 @@ first-short ws small deep =
     label-short (take d (drop 1 ws)) (omega (arith, length-take d (drop 1 ws))) (λ x m.
     let (i, p, e) = member-at 0 (take d (drop 1 ws)) x .0 m in
     let in-label : i < d = omega (arith, length-take d (drop 1 ws)) in
-    rw (← e, getD-take d (drop 1 ws) i 0 in-label, getD-drop) (small (1 + i)))
+    rw (← e, getD-take d (drop 1 ws) i 0 in-label, getD-drop) (small (1 + i) .fits))
 
--- the labels that words hold
-labels-short : (k : ℕ) (ws : List ℕ) → Small ws → Depths k ws → (l : Label) → l ∈ labelsIn k ws → length (labelText l) < labelRoom
+-- each label that words hold has fewer than ninety bytes
+labels-short : (k : ℕ) (ws : List ℕ) → Small ws → LabelDepths k ws → (l : Label) → l ∈ labelsIn k ws → length (labelText l) < labelRoom
 unfolding labelsIn
 labels-short zero ws small deep = λ l m. absurd (nowhere m)
 labels-short (suc k) ws small deep =
@@ -90,16 +91,16 @@ labels-short (suc k) ws small deep =
     (labels-short k (drop labelSize ws) (small-drop labelSize ws small) (depths-drop 1 k ws (λ i h. deep i (omega arith))))
 
 module _ (k : ℕ) (some : 1 ≤ k) where
-  -- the first match that words hold
-  first-line-short : (ws : List ℕ) → Small ws → Depths k ws → length (matchLine (labelsIn k ws)) ≤ labelRoom * k
+  -- the line of the first match that words hold has at most ninety bytes for each label
+  first-line-short : (ws : List ℕ) → Small ws → LabelDepths k ws → length (matchLine (labelsIn k ws)) ≤ labelRoom * k
   first-line-short ws small deep = go (labelsIn k ws) (length-labelsIn k ws) (labels-short k ws small deep)
     where
       go : (m : Match) → length m ≡ k → ((l : Label) → l ∈ m → length (labelText l) < labelRoom) → length (matchLine m) ≤ labelRoom * k
       go [] e h = absurd (omega arith)
       go (l ∷ m) e h = omega (arith, line-short l m h)
 
-  -- the lines of all
-  lines-short : (n : ℕ) (ws : List ℕ) → Small ws → Depths (k * n) ws → length (joined (map matchLine (matchesIn k n ws))) ≤ labelRoom * (k * n)
+  -- the lines of all matches have at most ninety bytes for each label
+  lines-short : (n : ℕ) (ws : List ℕ) → Small ws → LabelDepths (k * n) ws → length (joined (map matchLine (matchesIn k n ws))) ≤ labelRoom * (k * n)
   unfolding matchesIn joined
   lines-short zero ws small deep = omega (arith, mul-zero k)
   lines-short (suc n) ws small deep =
@@ -112,8 +113,8 @@ module _ (k : ℕ) (some : 1 ≤ k) where
         lines-short n behind (small-drop (labelSize * k) ws small) (depths-drop k (k * n) ws (λ i h. deep i (omega arith))),
       )
 
-  -- the matches and their count
-  pub matches-short : (n : ℕ) (ws : List ℕ) → n < 2 ^ 64 → Small ws → Depths (k * n) ws → length (matchesText (matchesIn k n ws)) ≤ labelRoom * (k * n) + countRoom
+  -- the text of all matches and of their count has at most ninety bytes for each label and twenty-one more
+  pub matches-short : (n : ℕ) (ws : List ℕ) → n < 2 ^ 64 → Small ws → LabelDepths (k * n) ws → length (matchesText (matchesIn k n ws)) ≤ labelRoom * (k * n) + countRoom
   unfolding matchesText
   matches-short n ws few small deep =
       let lines : List ℕ = joined (map matchLine (matchesIn k n ws)) in

@@ -17,8 +17,8 @@ matchesIn k zero ws = []
 matchesIn k (suc n) ws = labelsIn k ws ∷ matchesIn k n (drop (labelSize * k) ws)
 
 -- each of the first n labels of words has a depth of at most 15
-abbrev pub Depths : ℕ → List ℕ → Type 0
-Depths n ws = (i : ℕ) → i < n → getD ws (labelSize * i) 0 ≤ maxDepth
+abbrev pub LabelDepths : ℕ → List ℕ → Type 0
+LabelDepths n ws = (i : ℕ) → i < n → getD ws (labelSize * i) 0 ≤ maxDepth
 
 -- the most bytes of a label and of what parts it from the next: fifteen components of five digits, a byte behind each
 abbrev pub labelRoom : ℕ

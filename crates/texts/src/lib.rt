@@ -1,4 +1,5 @@
-// Texts: matches and refusals as they are printed. Each function writes bytes into a text from a position on, and answers the position behind them.
+// Texts: matches and refusals as they are printed. Each function writes bytes into a text from a position on, and
+// answers the position behind them.
 use labels::Label;
 ghost use mathlib.Core.Path.{_≡_};
 ghost use mathlib.Core.List.{[], _∷_};
@@ -9,7 +10,7 @@ ghost use Rattle.basics.specs.Limits.{labelSize};
 ghost use Rattle.labelling.specs.Labels.{labelOf};
 ghost use Rattle.match_calls.specs.Matching.{labelsIn};
 ghost use Rattle.printouts.specs.Printing.{zeroDigit, decimal, labelText, matchLine, matchesText, refusalText};
-ghost use Rattle.texts.specs.Texts.{numberLine, matchesIn, Depths, labelRoom, countRoom, refusalRoom};
+ghost use Rattle.texts.specs.Texts.{numberLine, matchesIn, LabelDepths, labelRoom, countRoom, refusalRoom};
 ghost use Rattle.words.specs.Writing.{written};
 
 // The most bytes of a label and of what parts it from the next.
@@ -31,7 +32,7 @@ const SPACE: u8 = 32;
 // What ends a line.
 const NEWLINE: u8 = 10;
 
-// One byte.
+// One byte, written at a position.
 fn put_byte(text: &mut [u8], at: usize, byte: u8) -> usize
     requires { ⌜ at + 1 ≤ length (now text) ⌝ }
     ensures { λ r. ⌜ (r ≡ at + 1) × (now (text .exit) ≡ written at (byte ∷ []) (now (text .entry))) ⌝ }
@@ -40,7 +41,7 @@ fn put_byte(text: &mut [u8], at: usize, byte: u8) -> usize
     at + 1
 }
 
-// The bytes of a slice.
+// The bytes of a slice, written one by one.
 fn put_bytes(text: &mut [u8], at: usize, bytes: &[u8]) -> usize
     requires { ⌜ at + length (now bytes) ≤ length (now text) ⌝ }
     ensures { λ r. ⌜ (r ≡ at + length (now (bytes .entry))) × (now (text .exit) ≡ written at (now (bytes .entry)) (now (text .entry))) ⌝ }
@@ -104,15 +105,16 @@ fn put_label(text: &mut [u8], at: usize, words: &[u16]) -> usize
     let mut i: usize = 1;
     while i < depth {
         i += 1;
+        let component = words[i] as usize;
         end = put_byte(text, end, DOT);
-        end = put_decimal(text, end, words[i] as usize);
+        end = put_decimal(text, end, component);
     }
     end
 }
 
 // A match: its labels parted by spaces, and a newline.
 fn put_match(text: &mut [u8], at: usize, words: &[u16], k: usize) -> usize
-    requires { ⌜ (1 ≤ k) × (labelSize * k ≤ length (now words)) × Depths k (now words) × (at + length (matchLine (labelsIn k (now words))) ≤ length (now text)) ⌝ }
+    requires { ⌜ (1 ≤ k) × (labelSize * k ≤ length (now words)) × LabelDepths k (now words) × (at + length (matchLine (labelsIn k (now words))) ≤ length (now text)) ⌝ }
     ensures { λ r. ⌜ (r ≡ at + length (matchLine (labelsIn k (now (words .entry))))) × (now (text .exit) ≡ written at (matchLine (labelsIn k (now (words .entry)))) (now (text .entry))) ⌝ }
 {
     let mut end = put_label(text, at, words);
@@ -136,7 +138,7 @@ fn put_number(text: &mut [u8], at: usize, n: usize) -> usize
 
 // The matches that words hold, a line for each, and their count as the last line.
 pub fn put_matches(words: &[u16], count: usize, k: usize, text: &mut [u8]) -> usize
-    requires { ⌜ (1 ≤ k) × (labelSize * (k * count) ≤ length (now words)) × Depths (k * count) (now words) × (labelRoom * (k * count) + countRoom ≤ length (now text)) ⌝ }
+    requires { ⌜ (1 ≤ k) × (labelSize * (k * count) ≤ length (now words)) × LabelDepths (k * count) (now words) × (labelRoom * (k * count) + countRoom ≤ length (now text)) ⌝ }
     ensures { λ r. ⌜ (r ≡ length (matchesText (matchesIn k count (now (words .entry))))) × (now (text .exit) ≡ over (matchesText (matchesIn k count (now (words .entry)))) (now (text .entry))) ⌝ }
 {
     let mut end: usize = 0;

@@ -1,4 +1,4 @@
-// The check of a twig: its length, then each record's parent, edge, name and last byte.
+// The check of a twig: its length, then each node's parent, edge, name and last byte.
 use refusals::Refusal;
 use refusals::Verdict;
 use refusals::refuse;
@@ -12,11 +12,11 @@ ghost use Prim.Native.Nat.{_+_, _*_, _%_, _≤_};
 ghost use lib.ListN.{length};
 ghost use lib.Dec.{eqb, leb, ltb};
 ghost use Rattle.basics.specs.Limits.{maxTwig, nodeSize};
-ghost use Rattle.patterns.specs.Twigs as model;
+ghost use Rattle.patterns.specs.Twigs as spec;
 ghost use Rattle.refusals.specs.Answers.{verdictOf};
 ghost use Rattle.twig_checks.specs.Answers.{nodeCheckAt};
 
-// A twig has at least one record, at most eight, and nothing besides.
+// Whether bytes of this length are a twig's: at least one node, at most eight, and nothing besides.
 fn is_length(bytes: usize) -> bool
     ensures { λ b. ⌜ b ≡ (ltb 0 bytes && leb bytes maxTwig && eqb (bytes % nodeSize) 0) ⌝ }
 {
@@ -29,9 +29,9 @@ fn is_length(bytes: usize) -> bool
     bytes % Node::BYTES == 0
 }
 
-// Record 0 has 255 for its parent, another a number below its own.
+// Whether a parent's number fits: node 0 has 255, another node a number below its own.
 fn parent_fits(q: usize, parent: u8) -> bool
-    ensures { λ b. ⌜ b ≡ model.parentFits q parent ⌝ }
+    ensures { λ b. ⌜ b ≡ spec.parentFits q parent ⌝ }
 {
     if q == 0 {
         return parent == Node::NO_PARENT;
@@ -39,14 +39,14 @@ fn parent_fits(q: usize, parent: u8) -> bool
     (parent as usize) < q
 }
 
-// An edge is to a child or to a descendant.
+// Whether a number is an edge: to a child or to a descendant.
 fn is_edge(edge: u8) -> bool
-    ensures { λ b. ⌜ b ≡ (eqb edge model.childEdge || eqb edge model.descendantEdge) ⌝ }
+    ensures { λ b. ⌜ b ≡ (eqb edge spec.childEdge || eqb edge spec.descendantEdge) ⌝ }
 {
     edge == Node::CHILD || edge == Node::DESCENDANT
 }
 
-// The check of record q, 5 to 8.
+// The check of node q: 5 to 8.
 fn check_node(twig: &[u8], q: usize) -> Verdict
     requires { ⌜ q * 4 + 4 ≤ length (now twig) ⌝ }
     ensures { λ r. ⌜ r ≡ verdictOf (nodeCheckAt (now (twig .entry)) q) ⌝ }
@@ -67,9 +67,9 @@ fn check_node(twig: &[u8], q: usize) -> Verdict
     Verdict::Passed
 }
 
-// The check of a twig, 4 to 8: its length, then record by record.
+// The check of a twig, its length and then node by node: 4 to 8.
 pub fn check_twig(twig: &[u8]) -> Verdict
-    ensures { λ r. ⌜ r ≡ verdictOf (model.twigCheck (now (twig .entry))) ⌝ }
+    ensures { λ r. ⌜ r ≡ verdictOf (spec.twigCheck (now (twig .entry))) ⌝ }
 {
     if !is_length(twig.len()) {
         return refuse(Refusal::TWIG_LENGTH, 0);

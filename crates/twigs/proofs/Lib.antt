@@ -1,3 +1,3 @@
--- The bytes and the records, then the name asked for.
+-- The bytes and the nodes, then the name asked for.
 pub mod Nodes
 pub mod Asking

@@ -1,4 +1,4 @@
--- The records of a twig, read from its bytes, and what holds of them where the bytes are accepted.
+-- The nodes of a twig, read from its bytes, and what holds of them where the bytes are accepted.
 use Prim.Native.Nat.{ℕ, _+_, _*_, _/_, _<_, _≤_}
 use mathlib.Core.Path.{_≡_}
 use mathlib.Core.List.{List}
@@ -11,35 +11,35 @@ use Rattle.patterns.specs.Twigs.{nodeAt, readTwig, twigCheck}
 use Rattle.patterns.proofs.TwigBytes.{length-readTwig, readTwig-at, accepted-twig}
 use Rattle.twigs.specs.Answers.{nodeOf}
 
--- a twig has a record for every four bytes
+-- a twig has a node for every four bytes
 pub length-twig : (bytes : List ℕ) → length (readTwig bytes) ≡ length bytes / nodeSize
 length-twig bytes = let h = length-readTwig bytes in omega arith
 
--- each of which has its bytes
+-- each node of a twig has its four bytes
 pub node-bytes : (bytes : List ℕ) (q : ℕ) {n : ℕ} → n ≡ length (readTwig bytes) → q < n → q * nodeSize + nodeSize ≤ length bytes
 node-bytes bytes q e h = omega (arith, length-readTwig bytes)
 
 module _ (bytes : List ℕ) (q : ℕ) (h : q * nodeSize + nodeSize ≤ length bytes) where
-  -- record q is its bytes
+  -- node q is read from its bytes
   node-read : nodeAt (readTwig bytes) q ≡
       record { parent = getD bytes (q * nodeSize) 0; edge = getD bytes (q * nodeSize + 1) 0; name = getD bytes (q * nodeSize + 2) 0 }
   node-read = let e : nodeSize * q ≡ q * nodeSize = omega arith in rw e at (readTwig-at bytes q (omega arith))
 
-  -- the three as data
+  -- node q as data has the first three of its bytes
   pub node-data : record { parent = getD bytes (q * nodeSize + 0) 0; edge = getD bytes (q * nodeSize + 1) 0; name = getD bytes (q * nodeSize + 2) 0 } ≡
       nodeOf (nodeAt (readTwig bytes) q)
   node-data = rw (node-read, add-zero)
 
--- bytes that are accepted
+-- the bytes of a twig that is accepted
 module _ (bytes : List ℕ) (e : twigCheck bytes ≡ none) where
-  -- there is a record
+  -- an accepted twig has a node
   pub twig-some : 0 < length (readTwig bytes)
-  twig-some = accepted-twig bytes e .some-record
+  twig-some = accepted-twig bytes e .some-node
 
-  -- there are at most eight
+  -- an accepted twig has at most eight nodes
   pub twig-few : length (readTwig bytes) ≤ 8
   twig-few = omega (arith, accepted-twig bytes e .few)
 
-  -- a parent stands earlier
+  -- the parent of a later node of an accepted twig stands earlier
   pub twig-parent : (q : ℕ) → 0 < q → q < length (readTwig bytes) → nodeAt (readTwig bytes) q .parent < q
   twig-parent q p h = accepted-twig bytes e .earlierParent q p h

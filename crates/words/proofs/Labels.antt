@@ -1,5 +1,4 @@
 -- A label copied: its sixteen words read one by one, then written to an output.
--- Assumes nothing.
 use Prim.Native.Nat.{ℕ, _+_, _-_, _<_, _≤_}
 use mathlib.Core.Path.{_≡_, refl, sym, ap, ap₂, _∙_}
 use mathlib.Core.List.{List, _++_, append-nil}
@@ -13,18 +12,19 @@ use Rattle.words.specs.Writing.{written}
 use Rattle.words.proofs.Words.{over-middle}
 use Rattle.words.proofs.Writing.{written-over, written-paste}
 
--- the words of the label from a place on
+-- the words of a label that stands in a list from a place on
 module _ (from : List ℕ) (at : ℕ) (room : at + labelSize ≤ length from) where
+  -- the words of the label
   abbrev label : List ℕ
   label = take labelSize (drop at from)
 
-  -- there are sixteen
+  -- the label has sixteen words
   pub label-long : length (take labelSize (drop at from)) ≡ labelSize
   label-long = length-take-le labelSize (drop at from) (omega (arith, length-drop at from))
 
-  -- w of them copied into sixteen places
+  -- w words of the label are copied into sixteen places
   module _ {now : List ℕ} {w : ℕ} (is : now ≡ paste (replicate labelSize 0) 0 (take labelSize (drop at from)) w) where
-    -- one more
+    -- one more word of the label is copied
     pub copy-more : w < labelSize → set now w (getD from (at + w) 0) ≡ paste (replicate labelSize 0) 0 (take labelSize (drop at from)) (w + 1)
     copy-more h =
         let word : getD label w 0 ≡ getD from (at + w) 0 = getD-take labelSize (drop at from) w 0 h ∙ getD-drop at from w 0 in
@@ -33,7 +33,7 @@ module _ (from : List ℕ) (at : ℕ) (room : at + labelSize ≤ length from) wh
         ap (λ p. set (paste (replicate labelSize 0) 0 label w) p (getD label w 0)) (sym place) ∙
         rw add-one (paste-suc (replicate labelSize 0) 0 label w 0 (omega (arith, length-replicate {A = ℕ} labelSize 0)) (omega (arith, label-long)))
 
-    -- all
+    -- where sixteen words are copied, the copy is the label
     pub copy-all : w ≤ labelSize → labelSize ≤ w → now ≡ take labelSize (drop at from)
     unfolding over
     copy-all h k =

@@ -11,20 +11,21 @@ use Rattle.basics.specs.Basics.{over}
 use Rattle.basics.proofs.Scans.{tail-is}
 
 module _ (d s : List ℕ) {e : List ℕ} {i : ℕ} (p : e ≡ take i s ++ drop i d) where
-  -- one more word written
+  -- one more word is written
   pub over-more : length s ≤ length d → i < length s → set e i (getD s i 0) ≡ take (i + 1) s ++ drop (i + 1) d
   over-more h k =
       let more = paste-suc d 0 s i 0 (omega arith) k in
       rw (p, add-one) (simp zero-add at more)
 
-  -- all words written
+  -- at the end of the loop all words are written
   pub over-all : i ≤ length s → length s ≤ i → e ≡ over s d
   unfolding over
   over-all h k =
       let z : i ≡ length s = omega arith in
       p ∙ rw z (ap (λ t. t ++ drop (length s) d) (take-length s))
 
--- a list of which the words from one place on were lent and overwritten: they stand up to another place, the rest is as it was
+-- a list of which the words from one place on were lent and
+-- overwritten: those written stand there, and the rest is as it was
 pub over-middle : (d s : List ℕ) (from to : ℕ) {l : List ℕ} → from + length s ≡ to → l ≡ over s (take (length d - from) (drop from d)) →
     take from d ++ (l ++ drop (length d - from) (drop from d)) ≡ take from d ++ (s ++ drop to d)
 unfolding over

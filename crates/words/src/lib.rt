@@ -5,10 +5,10 @@ ghost use lib.ListN.{length, take, drop};
 ghost use Rattle.basics.specs.Basics.{over};
 ghost use Rattle.words.specs.Writing.{written};
 
-// The words of a label.
+// How many words a label has.
 const LABEL_WORDS: usize = 16;
 
-// Words written over the first of others.
+// Words written over the first words of a slice.
 pub fn overwrite(words: &mut [u16], from: &[u16])
     requires { ⌜ length (now from) ≤ length (now words) ⌝ }
     ensures { λ u. ⌜ now (words .exit) ≡ over (now (from .entry)) (now (words .entry)) ⌝ }
@@ -34,7 +34,7 @@ fn label_words(from: &[u16], at: usize) -> [u16; 16]
     words
 }
 
-// A label as a slice.
+// The sixteen words of a label, as a slice.
 fn whole(words: &[u16; 16]) -> &[u16]
     ensures { λ r. ⌜ (now r ≡ now (words .entry)) × (length (now r) ≡ 16) ⌝ }
 {

@@ -1,4 +1,4 @@
--- Sums and numbers that wrap.
+-- Sums of two numbers, and numbers of a row, that wrap.
 use mathlib.Core.List.{List}
 use Prim.Native.Nat.{ℕ, _+_, _%_, _^_}
 use lib.ListN.{getD}
@@ -7,9 +7,10 @@ use lib.ListN.{getD}
 abbrev pub wrapped : ℕ → ℕ → ℕ
 wrapped a b = (a + b) % 2 ^ 64
 
--- the number at a place of a row as a word, and as a byte
+-- the number at a place of a row as a word
 abbrev pub wordAt : List ℕ → ℕ → ℕ
 wordAt row i = getD row i 0 % 65536
 
+-- the number at a place of a row as a byte
 abbrev pub byteAt : List ℕ → ℕ → ℕ
 byteAt row i = getD row i 0 % 256

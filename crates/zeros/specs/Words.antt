@@ -1,8 +1,8 @@
--- A word that is 0.
+-- When a word is 0.
 use Prim.Native.Nat.{ℕ}
 use mathlib.Core.Bool.{Bool}
 use lib.Dec.{eqb}
 
--- a word is 0
+-- the test of a word: whether it is 0
 abbrev pub isZero : ℕ → Bool
 isZero x = eqb x 0

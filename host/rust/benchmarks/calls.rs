@@ -115,7 +115,7 @@ impl Call for Entry<'_> {
     }
 }
 
-/// The deletion of what was so entered.
+/// The deletion of the element that `Entry` enters.
 pub struct Deletion<'a> {
     d: &'a Data,
     before: Vec<u16>,
@@ -251,7 +251,7 @@ impl Call for Matching {
             out,
         } = self;
         match who {
-            Who::Library => library::find_matches(t, 0, twig, counts, buf, out),
+            Who::Library => library::match_twig(t, 0, twig, counts, buf, out),
             Who::Quick => matching(Algo::Fast, t, 0, twig, counts, buf, out),
             Who::Plain => matching(Algo::MaskSkip, t, 0, twig, counts, buf, out),
         }
@@ -264,7 +264,7 @@ impl Call for Matching {
     }
 }
 
-/// The same with each leaf's stream cut from the store in front.
+/// The matches of a twig, with each leaf's stream cut from the store in front.
 pub struct CutAndMatch<'a> {
     d: &'a Data,
     names: Vec<u8>,
@@ -281,7 +281,7 @@ impl CutAndMatch<'_> {
         }
     }
 
-    /// How many different labels the last record has in the matches of the last call.
+    /// How many different labels the last node has in the matches of the last call.
     pub fn last_labels(&self, matches: usize) -> usize {
         let width = self.m.twig.len() / 4 * LAB;
         let mut labels: Vec<&[u16]> = self.m.out[..matches * width]

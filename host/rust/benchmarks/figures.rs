@@ -1,9 +1,9 @@
 //! A call with its least times, and what must hold before it is timed.
 use super::*;
 
-/// In a round a program makes at most so many calls, ..
+/// In a round a program makes at most so many calls.
 pub const CALLS: usize = 100;
-/// .. and begins none after so many nanoseconds.
+/// In a round a program begins no call after so many nanoseconds.
 pub const BUDGET: f64 = 4e6;
 
 #[derive(Clone, Copy, PartialEq)]
@@ -38,8 +38,8 @@ pub struct Peer<'a> {
     pub whole: f64,
     /// libxml2 listing every match.
     pub list: f64,
-    /// libxml2's one expression.
-    pub nodes: f64,
+    /// libxml2's one expression, which gives the set of the last node's elements.
+    pub set: f64,
 }
 
 /// The least time of the calls of a round, in ns.
@@ -106,7 +106,7 @@ impl<'a> Figure<'a> {
     }
 
     /// A twig on a tree; with cutting in front it has the same matches. libxml2 lists as many, and
-    /// its one expression has as many nodes as the last record has labels.
+    /// its one expression has as many elements as the last node has labels.
     pub fn twig(
         name: &str,
         d: &'a Data,
@@ -123,7 +123,7 @@ impl<'a> Figure<'a> {
             "{name}, {}: cutting changes the matches",
             d.count
         );
-        let [matches, list, found, nodes] = xpath.ask(twig);
+        let [matches, list, found, set] = xpath.ask(twig);
         assert!(
             matches == f.matches() as f64,
             "{name}, {}: {matches} matches by libxml2, {} by the library",
@@ -132,7 +132,7 @@ impl<'a> Figure<'a> {
         );
         assert!(
             found == call.last_labels(f.matches()) as f64,
-            "{name}, {}: {found} nodes by libxml2",
+            "{name}, {}: {found} elements by libxml2",
             d.count
         );
         f.peer = Some(Peer {
@@ -140,7 +140,7 @@ impl<'a> Figure<'a> {
             call,
             whole: f64::MAX,
             list,
-            nodes,
+            set,
         });
         f
     }
@@ -152,8 +152,8 @@ impl<'a> Figure<'a> {
         }
         if let Some(p) = &mut self.peer {
             p.whole = p.whole.min(least(&mut p.call, Who::Library));
-            let [_, list, _, nodes] = xpath.ask(p.twig);
-            (p.list, p.nodes) = (p.list.min(list), p.nodes.min(nodes));
+            let [_, list, _, set] = xpath.ask(p.twig);
+            (p.list, p.set) = (p.list.min(list), p.set.min(set));
         }
     }
 
@@ -181,7 +181,7 @@ impl<'a> Figure<'a> {
             self.elements.to_string()
         }
     }
-    /// Which call on which tree.
+    /// The call, and the size of the tree that it is made on.
     pub fn place(&self) -> String {
         format!("{} {}", self.name, self.size()).trim_end().into()
     }

@@ -35,7 +35,7 @@ pub fn cut(t: &Table, s: &[u16], count: usize, name: u8, out: &mut [u16]) -> R<u
     answered(|a| ffi::cut(t.as_flattened(), s, count, name, out, a))
 }
 
-pub fn find_matches(
+pub fn match_twig(
     t: &Table,
     root: u8,
     twig: &[u8],
@@ -43,5 +43,5 @@ pub fn find_matches(
     buf: &[u16],
     out: &mut [u16],
 ) -> R<usize> {
-    answered(|a| ffi::find_matches(t.as_flattened(), root, twig, counts, buf, out, a))
+    answered(|a| ffi::match_twig(t.as_flattened(), root, twig, counts, buf, out, a))
 }

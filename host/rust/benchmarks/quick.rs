@@ -21,7 +21,7 @@ fn found_at(s: &[u16], count: usize, label: &[u16]) -> R<usize> {
     }
 }
 
-/// Entry.
+/// Entry, with the quick checks in front.
 pub fn enter(
     t: &Table,
     s: &mut [u16],
@@ -67,7 +67,7 @@ pub fn enter(
     Ok(count + 1)
 }
 
-/// Deletion.
+/// Deletion, with the quick checks in front.
 pub fn delete(t: &Table, s: &mut [u16], count: usize, label: &[u16]) -> R<usize> {
     checks(t, s, count)?;
     if label.len() != LAB || !shape_ok(lab(label, 0)) {

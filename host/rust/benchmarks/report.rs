@@ -26,15 +26,15 @@ fn print_figure(f: &Figure) {
         (_, Err(r)) => format!("refused {}", r.0),
     };
     let peer = match &f.peer {
-        Some(p) => [us(p.whole), us(p.list), two(f.lead()), us(p.nodes)],
+        Some(p) => [us(p.whole), us(p.list), two(f.lead()), us(p.set)],
         None => Default::default(),
     };
-    let [whole, list, lead, nodes] = peer;
+    let [whole, list, lead, set] = peer;
     let (size, read) = (f.size(), f.read.to_string());
     let times = f.ns.map(us);
     let ratio = two(f.ratio());
     row(&[
-        &f.name, &size, &read, &answer, &times[0], &times[1], &ratio, &whole, &list, &lead, &nodes,
+        &f.name, &size, &read, &answer, &times[0], &times[1], &ratio, &whole, &list, &lead, &set,
     ]);
 }
 
@@ -51,7 +51,7 @@ pub fn print_figures(figures: &[Figure]) {
         "with cut",
         "libxml2",
         "to library",
-        "nodes only",
+        "set only",
     ]);
     for f in figures {
         print_figure(f)
@@ -116,7 +116,7 @@ const LIMITS: [(Kind, &str, f64); 6] = [
         2.0,
     ),
 ];
-/// The same for the median of the eleven twigs.
+/// The most that the median ratio of the eleven twigs may be.
 const MEDIAN_LIMIT: f64 = 1.5;
 
 /// A goal, and whether it is kept.

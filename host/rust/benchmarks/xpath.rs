@@ -16,7 +16,7 @@ impl Xpath {
         let mut lines = String::new();
         for (d, name, twig) in asked {
             std::fs::write(format!("{folder}/{}.xml", d.name), document(d)).unwrap();
-            lines += &format!("{}\t{}\t{}\n", d.name, expression(name), records(d, twig));
+            lines += &format!("{}\t{}\t{}\n", d.name, expression(name), nodes(d, twig));
         }
         std::fs::write(format!("{folder}/twigs"), lines).unwrap();
         let mut child = Command::new(program)
@@ -33,8 +33,8 @@ impl Xpath {
         }
     }
 
-    /// For a twig by its number: how many matches, the least time of listing them, how many nodes its
-    /// one expression has, and the least time of that.
+    /// For a twig by its number: how many matches, the least time of listing them, how many
+    /// elements its one expression has, and the least time of that.
     pub fn ask(&mut self, twig: usize) -> [f64; 4] {
         assert!(twig < self.twigs);
         writeln!(
@@ -59,8 +59,8 @@ fn expression(name: &str) -> &str {
     name.split_once(' ').unwrap().1
 }
 
-/// The records of a twig, PARENT:EDGE:NAME.
-fn records(d: &Data, twig: &[u8]) -> String {
+/// The nodes of a twig, PARENT:EDGE:NAME.
+fn nodes(d: &Data, twig: &[u8]) -> String {
     let name = |n: u8| if n == 255 { "*" } else { d.names[n as usize] };
     let all: Vec<String> = twig
         .chunks(4)

@@ -1,11 +1,11 @@
 //! The thirteen calls as the C header has them, with a slice for each pointer and its length.
 //!
-//! Each answers 0 where it is taken and else the refusal's number. The last slice gets the refusal's
-//! place and the call's value, as far as it has room; nothing past them is written.
+//! Each call answers 0 where it is taken and else the refusal's number. The last slice gets the
+//! refusal's place and the call's value, as far as it has room; nothing past them is written.
 //!
-//! This is the only module with `unsafe` code. The header asks three things of a caller, and slices
-//! have them: a pointer is valid for its length, it is aligned and not null even where the length is
-//! 0, and what is lent by `&mut` overlaps no other slice. The library asks nothing of what stands in
+//! Only this module has `unsafe` code. The header asks three things of a caller, and slices have
+//! them: a pointer is valid for its length, it is aligned and not null even where the length is 0,
+//! and what is lent by `&mut` overlaps no other slice. The library asks nothing of what stands in
 //! the slices, so these functions are safe for every argument.
 
 #![allow(unsafe_code, clippy::too_many_arguments)]
@@ -116,7 +116,7 @@ extern "C" {
         answer: *mut usize,
         answer_len: usize,
     ) -> u8;
-    fn jiszteruk_match(
+    fn jiszteruk_match_twig(
         table: *const u8,
         table_len: usize,
         root: u8,
@@ -340,7 +340,7 @@ pub fn check_twig(twig: &[u8], answer: &mut [usize]) -> u8 {
 }
 
 /// Writes the matches of a twig; the value is their number: 22, 21, 4 to 8, 20, 17.
-pub fn find_matches(
+pub fn match_twig(
     table: &[u8],
     root: u8,
     twig: &[u8],
@@ -351,7 +351,7 @@ pub fn find_matches(
 ) -> u8 {
     // SAFETY: pointers and lengths are those of slices.
     unsafe {
-        jiszteruk_match(
+        jiszteruk_match_twig(
             table.as_ptr(),
             table.len(),
             root,

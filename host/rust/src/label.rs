@@ -45,7 +45,7 @@ impl Label {
     /// assert_eq!(refusal, Refusal { number: Refusal::NOT_LABEL, place: 0 });
     /// ```
     pub fn from_words(words: &[u16]) -> Result<Label, Refusal> {
-        // Every call that takes a label has the same check; this one has no other.
+        // Every call that takes a label has the same check; kinship has no other.
         ask(|answer| ffi::kinship(words, words, answer))?;
         let mut label = Self::ROOT;
         label.words.copy_from_slice(words);
@@ -107,18 +107,18 @@ impl fmt::Display for Label {
 /// What the first of two elements is to the second.
 #[derive(Clone, Copy, Debug, PartialEq, Eq, Hash)]
 pub enum Kinship {
-    /// The same element.
+    /// Both are the same element.
     Same = 0,
-    /// One level above it.
+    /// The first is the second's parent.
     Parent = 1,
-    /// An ancestor that is not the parent.
+    /// The first is an ancestor of the second, but not its parent.
     HigherAncestor = 2,
-    /// One level below it.
+    /// The first is a child of the second.
     Child = 3,
-    /// A descendant that is not a child.
+    /// The first is a descendant of the second, but no child.
     DeeperDescendant = 4,
-    /// None of these.
-    None = 5,
+    /// Neither is an ancestor of the other.
+    Unrelated = 5,
 }
 
 impl Kinship {
@@ -130,7 +130,7 @@ impl Kinship {
             2 => Kinship::HigherAncestor,
             3 => Kinship::Child,
             4 => Kinship::DeeperDescendant,
-            _ => Kinship::None,
+            _ => Kinship::Unrelated,
         }
     }
 }

@@ -7,10 +7,10 @@
 //! Every call takes slices and answers a [`Result`]. A [`Refusal`] has a number, a place and a
 //! sentence, and a refused call leaves every lent buffer as it was. No call asks anything of its
 //! arguments: whatever stands in the slices is answered, and nothing panics. A thread that calls
-//! [`find_matches`] needs a stack of 512 KB or more.
+//! [`match_twig`] needs a stack of 512 KB or more.
 //!
 //! ```
-//! use jiszteruk::{find_matches, Label, Refusal, Store, Table};
+//! use jiszteruk::{match_twig, Label, Refusal, Store, Table};
 //!
 //! // A garage with a vehicle, a test of it, and a curve taken in the test.
 //! let table = Table::bench();
@@ -24,7 +24,7 @@
 //! let twig = [255, 1, 2, 0, 0, 0, 4, 0];
 //! let curves = store.cut(&table, 4)?;
 //! let mut out = [0; 2 * Label::WORDS];
-//! let found = find_matches(&table, 0, &twig, &[1], &curves, &mut out)?;
+//! let found = match_twig(&table, 0, &twig, &[1], &curves, &mut out)?;
 //! assert_eq!(found, 1);
 //! assert_eq!(out[..Label::WORDS], test[..]);
 //! # Ok::<(), Refusal>(())
@@ -49,4 +49,4 @@ pub use store::{
     check_store, cut, delete, enter, new_store, Entry, Store, MAX_RECORDS, RECORD_WORDS,
 };
 pub use table::Table;
-pub use twig::{check_twig, find_matches};
+pub use twig::{check_twig, match_twig};

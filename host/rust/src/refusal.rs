@@ -8,7 +8,7 @@ use std::fmt;
 /// ```
 /// use jiszteruk::{check_twig, Refusal};
 ///
-/// // Record 1 is a child of record 0 by an edge that is neither child (0) nor descendant (1).
+/// // Node 1 hangs below node 0 by an edge that is neither child (0) nor descendant (1).
 /// let refusal = check_twig(&[255, 1, 1, 0, 0, 2, 3, 0]).unwrap_err();
 /// assert_eq!(refusal, Refusal { number: Refusal::TWIG_EDGE, place: 1 });
 /// assert_eq!(
@@ -20,7 +20,8 @@ use std::fmt;
 pub struct Refusal {
     /// 1 to 22; each number has a constant of its own.
     pub number: u8,
-    /// The pair, record or label from 0, the component from 1, or 0 where the number has no place.
+    /// The pair, node, record or label from 0, the component from 1, or 0 where the number has no
+    /// place.
     pub place: usize,
 }
 
@@ -52,10 +53,10 @@ refusals! {
     NAME_TOO_HIGH = 2, "the pair has a name above 63";
     PAIR_AGAIN = 3, "the pair stood before";
     TWIG_LENGTH = 4, "the twig's length is 0, over 32 bytes or not a multiple of 4";
-    TWIG_PARENT = 5, "the twig record's parent is not an earlier record, or for record 0 not 255";
+    TWIG_PARENT = 5, "the node's parent is not an earlier node, or for node 0 not 255";
     TWIG_EDGE = 6, "the edge is neither 0 for child nor 1 for descendant";
     NAME_ASKED = 7, "the name asked for is neither 0 to 63 nor 255 for any";
-    TWIG_END = 8, "the twig record's fourth byte is not 0";
+    TWIG_END = 8, "the node's fourth byte is not 0";
     NO_RECORD = 9, "no record in use has this label";
     NOT_IN_CLUE = 10, "the name may not stand below the parent";
     TOO_DEEP = 11, "the parent is at the deepest level, 15";

@@ -24,16 +24,16 @@ pub struct Table {
 }
 
 impl Table {
-    /// How many names there are: they are the numbers below.
+    /// How many names there are: names are the numbers below it.
     pub const NAMES: usize = 64;
     /// The length of a table in bytes.
     pub const BYTES: usize = Self::NAMES * Self::NAMES;
-    /// Fills up a row; no name.
-    pub const FILLING: u8 = 255;
+    /// Fills up a row, and is no name.
+    pub const FILLER: u8 = 255;
 
-    /// Every row empty.
+    /// The table of empty clues.
     const EMPTY: Table = Table {
-        bytes: [Self::FILLING; Self::BYTES],
+        bytes: [Self::FILLER; Self::BYTES],
     };
 
     /// Reads a child-name file: pairs of bytes, parent then child. Refused 1, 2, 3, and then there is

@@ -3,8 +3,8 @@
 use crate::refusal::ask;
 use crate::{ffi, Refusal, Table};
 
-/// Checks a twig: 1 to 8 records of 4 bytes, parent's record number (255 for record 0), edge (0
-/// child, 1 descendant), name (255 for any) and a zero. Refused 4 to 8.
+/// Checks a twig: 1 to 8 nodes of 4 bytes, the number of the parent (255 for node 0), the edge (0
+/// child, 1 descendant), the name (255 for any) and a zero. Refused 4 to 8.
 ///
 /// ```
 /// use jiszteruk::{check_twig, Refusal};
@@ -20,13 +20,13 @@ pub fn check_twig(twig: &[u8]) -> Result<(), Refusal> {
     ask(|answer| ffi::check_twig(twig, answer)).map(|_| ())
 }
 
-/// Writes every match of a twig, sixteen words for each label and one label for each twig record,
-/// and answers how many matches there are. The leaves' streams stand one after the other in
-/// `streams`, in the order of their records; `counts` says how many labels each has. Refused 21, 4
-/// to 8, 20, 17; then the output is untouched.
+/// Writes every match of a twig, one label of sixteen words for each node, and answers how many
+/// matches there are. The leaves' streams stand one after the other in `buffer`, in the order of
+/// their nodes; `counts` says how many labels each has. Refused 21, 4 to 8, 20, 17; then the output
+/// is untouched.
 ///
 /// ```
-/// use jiszteruk::{find_matches, Label, Refusal, Store, Table};
+/// use jiszteruk::{match_twig, Label, Refusal, Store, Table};
 ///
 /// let table = Table::bench();
 /// let mut store = Store::new(8, 0, [0, 0])?;
@@ -39,18 +39,18 @@ pub fn check_twig(twig: &[u8]) -> Result<(), Refusal> {
 /// let axles = store.cut(&table, 3)?;
 /// let counts = [axles.len() / Label::WORDS];
 /// let mut out = [0; 2 * Label::WORDS];
-/// assert_eq!(find_matches(&table, 0, &twig, &counts, &axles, &mut out), Ok(1));
+/// assert_eq!(match_twig(&table, 0, &twig, &counts, &axles, &mut out), Ok(1));
 /// assert_eq!(out[..Label::WORDS], vehicle[..]);
 /// assert_eq!(out[Label::WORDS..], axle[..]);
 /// # Ok::<(), Refusal>(())
 /// ```
-pub fn find_matches(
+pub fn match_twig(
     table: &Table,
     root: u8,
     twig: &[u8],
     counts: &[usize],
-    streams: &[u16],
+    buffer: &[u16],
     out: &mut [u16],
 ) -> Result<usize, Refusal> {
-    ask(|answer| ffi::find_matches(table.as_bytes(), root, twig, counts, streams, out, answer))
+    ask(|answer| ffi::match_twig(table.as_bytes(), root, twig, counts, buffer, out, answer))
 }

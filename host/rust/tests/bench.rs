@@ -1,7 +1,7 @@
 //! The paper's bench checks and wrong turns by the safe wrappers, with the values that the paper
 //! gives.
 
-use jiszteruk::{check_twig, find_matches, follows, kinship};
+use jiszteruk::{check_twig, follows, kinship, match_twig};
 use jiszteruk::{Kinship, Label, Refusal, Store, Table};
 
 const GARAGE: u8 = 0;
@@ -11,7 +11,7 @@ const AXLE: u8 = 3;
 const CURVE: u8 = 4;
 const NOTE: u8 = 5;
 const ANY: u8 = 255;
-const TWIG_RECORD: usize = 4;
+const NODE_BYTES: usize = 4;
 const NO_PAYLOAD: [u16; 2] = [0, 0];
 const ROOM: usize = 100;
 
@@ -43,8 +43,8 @@ fn found(table: &Table, store: &Store, twig: &[u8], leaves: &[u8]) -> Vec<String
     let labels = |stream: &Vec<u16>| stream.len() / Label::WORDS;
     let counts: Vec<usize> = streams.iter().map(labels).collect();
     let mut out = [0; ROOM * Label::WORDS];
-    let found = find_matches(table, GARAGE, twig, &counts, &streams.concat(), &mut out);
-    let words_of_match = twig.len() / TWIG_RECORD * Label::WORDS;
+    let found = match_twig(table, GARAGE, twig, &counts, &streams.concat(), &mut out);
+    let words_of_match = twig.len() / NODE_BYTES * Label::WORDS;
     let matches = out.chunks(words_of_match);
     matches
         .take(found.expect("there is room"))

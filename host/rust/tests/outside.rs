@@ -88,7 +88,7 @@ fn widest_clue() -> Clues {
 }
 
 /// Each name a place before the last one uses up 63 numbers. When none is left for one place, 12,
-/// there may be one for another; deletion gives none back. Without room it is 12 too.
+/// there may be one for another; deletion gives none back. Without room the answer is 12 too.
 fn numbers_run_out(beside: &mut Beside, rng: &mut Rng) {
     const LAST_NUMBER: u16 = 65_534;
     let mut run = Run::start(beside, rng, widest_clue(), 0);
@@ -231,7 +231,7 @@ fn full_slices(beside: &mut Beside, rng: &mut Rng) {
 }
 
 /// Streams of 4,096 labels are good, and longer ones are not. The number of matches has no bound;
-/// where they do not fit it is 17 with a count of 0.
+/// where they do not fit the answer is 17 with a count of 0.
 fn longest_streams(beside: &mut Beside) {
     let table = flat_table();
     let children: Vec<Label> = (0..=MAX_STREAM).map(|number| vec![number as u16]).collect();
@@ -242,19 +242,19 @@ fn longest_streams(beside: &mut Beside) {
 
     let Streams { counts, buffer } = Streams::of(&[most.to_vec()]);
     let enough = MAX_STREAM * words_of_match;
-    let (reply, _) = beside.find_matches(&table, 0, &path, &counts, &buffer, enough);
+    let (reply, _) = beside.match_twig(&table, 0, &path, &counts, &buffer, enough);
     assert_eq!((reply.number, reply.value), (0, MAX_STREAM));
-    let (reply, _) = beside.find_matches(&table, 0, &path, &counts, &buffer, enough - 1);
+    let (reply, _) = beside.match_twig(&table, 0, &path, &counts, &buffer, enough - 1);
     assert_eq!((reply.number, reply.value), (number::SHORT_OUTPUT, 0));
 
     let Streams { counts, buffer } = Streams::of(std::slice::from_ref(&children));
-    let (reply, _) = beside.find_matches(&table, 0, &path, &counts, &buffer, enough);
+    let (reply, _) = beside.match_twig(&table, 0, &path, &counts, &buffer, enough);
     assert_eq!(reply.number, number::BAD_STREAM);
 
     const LEAVES: usize = 7;
     let twig = [&[255, 0, 0, 0][..], &leaf.repeat(LEAVES)].concat();
     let Streams { counts, buffer } = Streams::of(&vec![most.to_vec(); LEAVES]);
-    let (reply, _) = beside.find_matches(&table, 0, &twig, &counts, &buffer, enough);
+    let (reply, _) = beside.match_twig(&table, 0, &twig, &counts, &buffer, enough);
     assert_eq!((reply.number, reply.value), (number::SHORT_OUTPUT, 0));
 }
 

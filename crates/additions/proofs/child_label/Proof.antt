@@ -1,4 +1,4 @@
--- `additions::child_label` meets its contract: the parent's words copied, two of them written.
+-- `additions::child_label` meets its contract: the parent's words are copied, and two of them written.
 use borrow.Author.Needs.{needs}
 use Rattle.additions.proofs.Children.{label-sixteen, label-child}
 use Rattle.additions.proofs.child_label.Statement.{statement}

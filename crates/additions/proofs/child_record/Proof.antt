@@ -1,4 +1,4 @@
--- `additions::child_record` meets its contract: a label copied over the root's.
+-- `additions::child_record` meets its contract: a label is copied over the label of the root's record.
 use borrow.Author.Needs.{needs}
 use Rattle.additions.proofs.Children.{record-child}
 use Rattle.additions.proofs.child_record.Statement.{statement}

@@ -1,4 +1,4 @@
--- `additions::write_child` meets its contract: the next number raised, the record put in behind the subtree.
+-- `additions::write_child` meets its contract: the next number is raised, and the record put in behind the subtree.
 use borrow.Author.Needs.{needs}
 use Rattle.changes.proofs.InUse.{end-used}
 use Rattle.additions.proofs.Additions.{written-length, written-room, child-written}

@@ -1,4 +1,5 @@
--- `case_lines::read_byte` meets its contract: a byte that is no digit leaves the row, and a digit is put behind those of its number.
+-- `case_lines::read_byte` meets its contract: a byte that is no digit leaves the row, and a digit is put behind those
+-- of its number.
 use borrow.Author.Needs.{needs}
 use Rattle.case_lines.proofs.Read.{no-digit, a-digit, row-left, row-longer}
 use Rattle.case_lines.proofs.read_byte.Statement.{statement}

@@ -1,4 +1,4 @@
--- `changes::root_record` meets its contract: three words of a row of zeros written.
+-- `changes::root_record` meets its contract: three words are written over a row of zeros.
 use borrow.Author.Needs.{needs}
 use Rattle.labelling.specs.Labels.{labelWords}
 use Rattle.storage.specs.Store.{elementWords}

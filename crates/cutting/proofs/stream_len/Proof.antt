@@ -16,11 +16,9 @@ Inv-loop store count want n₀ r₀ n r = (r ≤ count) × (n ≤ r) × (n + len
 abbrev μ-loop : tie.MeasureT-loop
 μ-loop store count want n₀ r₀ n r = count - r
 
-loop-again : tie.Need-loop-again Inv-loop μ-loop
-loop-again c = ⊎-elim (λ w. search (count-taken, needs)) (λ w. search (count-left, needs)) (c .if1 .came)
-
-returns : tie.Need-returns Inv-loop μ-loop
-returns c = search (count-end, needs)
+-- one record more is counted, whether it is taken or not
+record-counted : tie.Need-loop-again Inv-loop μ-loop
+record-counted c = ⊎-elim (λ w. search (count-taken, needs)) (λ w. search (count-left, needs)) (c .if1 .came)
 
 pub stream-len-spec : {M : Type 1} → statement M
 stream-len-spec =
@@ -33,5 +31,5 @@ stream-len-spec =
     (λ c. search needs)
     (λ c. search needs)
     (λ c. search needs)
-    loop-again
-    returns)
+    record-counted
+    (λ c. search (count-end, needs)))

@@ -1,4 +1,5 @@
--- `cutting::write_stream` meets its contract: what is written, with the stream from here on behind it, is what is to be written.
+-- `cutting::write_stream` meets its contract: what is written,
+-- with the stream from here on behind it, is what is to be written.
 use Prim.Native.Nat.{_≤_, _+_, _-_}
 use mathlib.Core.Logic.{⊎-elim}
 use mathlib.Core.Path.{_≡_}
@@ -25,8 +26,9 @@ Inv-loop store count want out₀ at₀ r₀ out at r =
 abbrev μ-loop : tie.MeasureT-loop
 μ-loop store count want out₀ at₀ r₀ out at r = count - r
 
-loop-again : tie.Need-loop-again Inv-loop μ-loop
-loop-again c =
+-- one record more is written or passed over
+record-written : tie.Need-loop-again Inv-loop μ-loop
+record-written c =
     ⊎-elim
     (λ w. (search needs, search needs, search needs, search (count-taken, needs), search (write-taken, needs)))
     (λ w. (search needs, search needs, search needs, search (count-left, needs), search (write-left, needs)))
@@ -46,6 +48,6 @@ write-stream-spec =
     (λ c. search needs)
     (λ c. search needs)
     (λ c. search needs)
-    loop-again
+    record-written
     (λ c. search needs)
     (λ c. search (write-end, needs)))

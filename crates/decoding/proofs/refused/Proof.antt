@@ -1,8 +1,7 @@
 -- `decoding::refused` meets its contract: the refusal, and no names.
 use borrow.Author.Needs.{needs}
-use Rattle.decoding.proofs.Answers.{no-names}
 use Rattle.decoding.proofs.refused.Statement.{statement}
 use Rattle.decoding.proofs.refused.Tie as tie
 
 pub refused-spec : {M : Type 1} → statement M
-refused-spec = tie.close (tie.spec (λ c κs. search needs) (λ c. search (no-names, needs)))
+refused-spec = tie.close (tie.spec (λ c. search needs))

@@ -28,6 +28,7 @@ walk-spec =
     (λ c. search (needs, needs))
     (λ c. search needs)
     (λ c κs. search needs)
+    (λ c κs. search needs)
     (λ c. search (walk-stuck, needs))
     (λ c. search needs)
     (λ c. search needs)

@@ -5,6 +5,10 @@ use Rattle.deletions.proofs.DeletionAnswers.{delete-unchecked, delete-r
 use Rattle.deletions.proofs.delete.Statement.{statement}
 use Rattle.deletions.proofs.delete.Tie as tie
 
+-- the store can be searched, and the record that was found has the label
+record-known : tie.Need-remove-subtree-requires
+record-known c κs = (search (call-searchable, needs), search (found-at, needs))
+
 pub delete-spec : {M : Type 1} → statement M
 delete-spec =
     tie.close
@@ -24,6 +28,6 @@ delete-spec =
     (λ c κs. search needs)
     (λ c. search needs)
     (λ c. search (delete-absent, needs))
-    (λ c κs. (search (call-searchable, needs), search (found-at, needs)))
+    record-known
     (λ c. search needs)
     (λ c. search (delete-done, needs)))

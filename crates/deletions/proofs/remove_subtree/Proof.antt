@@ -1,4 +1,4 @@
--- `deletions::remove_subtree` meets its contract: the records from the label's to the subtree's end taken out.
+-- `deletions::remove_subtree` meets its contract: the records from the label's to the subtree's end are taken out.
 use borrow.Author.Needs.{needs}
 use Rattle.changes.proofs.InUse.{end-used}
 use Rattle.deletions.proofs.DeletionAnswers.{subtree-some, subtree-over, subtree-fewer, subtree-removed}

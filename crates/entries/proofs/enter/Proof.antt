@@ -5,6 +5,10 @@ use Rattle.entries.proofs.EntryAnswers.{enter-unchecked, enter-absent, 
 use Rattle.entries.proofs.enter.Statement.{statement}
 use Rattle.entries.proofs.enter.Tie as tie
 
+-- the store can be searched, the words are a label, and the record that was found has it
+parent-known : tie.Need-enter-below-requires
+parent-known c κs = (search (call-searchable, needs), search (call-label, needs), search (found-label, needs))
+
 pub enter-spec : {M : Type 1} → statement M
 enter-spec =
     tie.close
@@ -23,6 +27,6 @@ enter-spec =
     (λ c κs. search needs)
     (λ c. search needs)
     (λ c. search (enter-absent, needs))
-    (λ c κs. (search (call-searchable, needs), search (call-label, needs), search (found-label, needs)))
+    parent-known
     (λ c. search needs)
     (λ c. search (enter-done, needs)))

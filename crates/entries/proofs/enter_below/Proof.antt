@@ -1,4 +1,4 @@
--- `entries::enter_below` meets its contract: what the parent refuses, else the child added.
+-- `entries::enter_below` meets its contract: what the parent refuses is refused, else the child is added.
 use borrow.Author.Needs.{needs}
 use Rattle.changes.proofs.InUse.{record-inside, record-shallow}
 use Rattle.entries.proofs.Gifts.{gift-low, gift-high, below-refused, below-added}

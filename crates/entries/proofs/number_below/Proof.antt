@@ -5,6 +5,10 @@ use Rattle.entries.proofs.Gifts.{gift-absent, gift-deep, gift-none, gif
 use Rattle.entries.proofs.number_below.Statement.{statement}
 use Rattle.entries.proofs.number_below.Tie as tie
 
+-- the word of the parent's name fits `usize`
+parent-fits-usize : tie.Need-cast-parent
+parent-fits-usize c = fits-widen tt (c .shared-slice-known2 .given _)
+
 pub number-below-spec : {M : Type 1} → statement M
 number-below-spec =
     tie.close
@@ -13,7 +17,7 @@ number-below-spec =
     (λ c. search needs)
     (λ c. search needs)
     (λ c. search needs)
-    (λ c. fits-widen tt (c .shared-slice-known2 .given _))
+    parent-fits-usize
     (λ c κs. search needs)
     (λ c. search needs)
     (λ c. search needs)

@@ -1,6 +1,6 @@
 -- `host_checks::jiszteruk_check_twig` meets its contract: the verdict is told.
 use borrow.Author.Needs.{needs}
-use Rattle.answers.proofs.Verdicts.{told-check}
+use Rattle.host_answers.proofs.Verdicts.{told-check}
 use Rattle.host_checks.proofs.jiszteruk_check_twig.Statement.{statement}
 use Rattle.host_checks.proofs.jiszteruk_check_twig.Tie as tie
 

@@ -1,4 +1,4 @@
--- `host_labels::jiszteruk_follows` meets its contract: whether the label follows, or the refusal.
+-- `host_labels::jiszteruk_follows` meets its contract: whether the first label follows is told, or the refusal.
 use borrow.Author.Needs.{needs}
 use Rattle.host_labels.proofs.Labels.{follows-taken, follows-refused}
 use Rattle.host_labels.proofs.jiszteruk_follows.Statement.{statement}

@@ -1,4 +1,4 @@
--- `host_labels::jiszteruk_kinship` meets its contract: a kinship, or the refusal.
+-- `host_labels::jiszteruk_kinship` meets its contract: the kinship is told, or the refusal.
 use borrow.Author.Needs.{needs}
 use Rattle.host_labels.proofs.Labels.{kinship-taken, kinship-refused}
 use Rattle.host_labels.proofs.jiszteruk_kinship.Statement.{statement}

@@ -4,6 +4,10 @@ use Rattle.host_stores.proofs.Stores.{enter-told, enter-written, enter-
 use Rattle.host_stores.proofs.jiszteruk_enter.Statement.{statement}
 use Rattle.host_stores.proofs.jiszteruk_enter.Tie as tie
 
+-- what is told, the store and the label are those of the entry
+entry-answered : tie.Need-returns
+entry-answered c = (search (enter-told, needs), (search (enter-written, needs), search (enter-labelled, needs)))
+
 pub jiszteruk-enter-spec : {M : Type 1} → statement M
 jiszteruk-enter-spec =
     tie.close
@@ -16,4 +20,4 @@ jiszteruk-enter-spec =
     (λ c. search needs)
     (λ c. search needs)
     (λ c. search needs)
-    (λ c. (search (enter-told, needs), (search (enter-written, needs), search (enter-labelled, needs)))))
+    entry-answered)

@@ -1,4 +1,4 @@
--- `host_tables::jiszteruk_bench_table` meets its contract: a slice that is a table's, and another.
+-- `host_tables::jiszteruk_bench_table` meets its contract: a slice that is a table's is written, another is refused.
 use borrow.Author.Needs.{needs}
 use Rattle.host_tables.proofs.Tables.{bench-no-number, bench-no-bytes, bench-number, bench-written}
 use Rattle.host_tables.proofs.jiszteruk_bench_table.Statement.{statement}

@@ -1,4 +1,4 @@
--- `host_tables::jiszteruk_read_names` meets its contract: a slice that is a table's, and another.
+-- `host_tables::jiszteruk_read_names` meets its contract: a slice that is a table's is written, another is refused.
 use borrow.Author.Needs.{needs}
 use Rattle.host_tables.proofs.Tables.{read-no-table, no-table-read, read-told, read-written}
 use Rattle.host_tables.proofs.jiszteruk_read_names.Statement.{statement}

@@ -1,4 +1,5 @@
--- `kinship::follows` meets its contract: refused by 15 unless both are labels, else the order of their components, the second first.
+-- `kinship::follows` meets its contract: refused by 15 unless both are labels,
+-- else the order of their components, the second first.
 use borrow.Author.Needs.{needs}
 use Rattle.kinship.proofs.Steps.{not-both, first-label, second-label, follows-refuses, follows-answers}
 use Rattle.kinship.proofs.follows.Statement.{statement}

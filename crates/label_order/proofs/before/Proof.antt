@@ -1,4 +1,5 @@
--- `label_order::before` meets its contract: the two labels are alike up to the loop's index, and the order of what is left is theirs.
+-- `label_order::before` meets its contract: the two labels are alike
+-- up to the loop's index, and the order of what is left is theirs.
 use borrow.Author.Needs.{needs}
 use Prim.Native.Nat.{_≤_, _-_}
 use mathlib.Core.Path.{_≡_}

@@ -5,13 +5,17 @@ use Rattle.labels.proofs.Steps.{label-size, label-deep, label-large, la
 use Rattle.labels.proofs.is_label.Statement.{statement}
 use Rattle.labels.proofs.is_label.Tie as tie
 
+-- a word is a depth that `usize` holds
+depth-fits-usize : tie.Need-cast-d
+depth-fits-usize c = fits-widen tt (c .shared-slice-known2 .given _)
+
 pub is-label-spec : {M : Type 1} → statement M
 is-label-spec =
     tie.close
     (tie.spec
     (λ c. search (label-size, needs))
     (λ c. search needs)
-    (λ c. fits-widen tt (c .shared-slice-known2 .given _))
+    depth-fits-usize
     (λ c. search (label-deep, needs))
     (λ c κs. search needs)
     (λ c κs. search needs)

@@ -1,9 +1,11 @@
 -- `lookup::rank` meets its contract: the number of records that pass stays between the two bounds.
 use borrow.Author.Needs.{needs}
 use Prim.Native.Nat.{_≤_, _-_}
+use Rattle.basics.proofs.Leading.{middle-in}
+use Rattle.basics.specs.Basics.{leading}
 use Rattle.storage.specs.Store.{elements}
-use Rattle.lookup.specs.Places.{passes, leading}
-use Rattle.lookup.proofs.Steps.{middle-in, in-room, in-shallow, rank-most, rank-over, rank-under}
+use Rattle.lookup.specs.Places.{passes}
+use Rattle.lookup.proofs.Steps.{in-room, in-shallow, rank-most, rank-over, rank-under}
 use Rattle.lookup.proofs.rank.Statement.{statement}
 use Rattle.lookup.proofs.rank.Tie as tie
 

@@ -1,5 +1,4 @@
--- `moving::put_record` meets its contract: the record is written over the one at its place.
--- From the contract of `words::overwrite`.
+-- `moving::put_record` meets its contract: the record is written over the one at its place, as `words::overwrite` says.
 use borrow.Author.Needs.{needs}
 use Rattle.moving.proofs.Moves.{put-over}
 use Rattle.moving.proofs.put_record.Statement.{statement}

@@ -14,6 +14,13 @@ Inv-loop file table₀ n i₀ table i = (n ≡ length file / 2) × Reading file 
 abbrev μ-loop : tie.MeasureT-loop
 μ-loop file table₀ n i₀ table i = n - i
 
+-- a pair that did not stand before is put at the end of its parent's clue, and one pair more is read
+pair-read : tie.Need-loop-again Inv-loop μ-loop
+pair-read c =
+    let asked : tie.After-place-of Inv-loop μ-loop = search in
+    let reading : tie.At-loop Inv-loop μ-loop = search in
+    (search needs, search (more-read _ (search needs) (search needs) (reading .loop .inv .1) (search needs) (search needs) (search needs) (asked .place-of .ensures), needs))
+
 pub put-pairs-spec : {M : Type 1} → statement M
 put-pairs-spec =
     tie.close
@@ -46,5 +53,5 @@ put-pairs-spec =
     (λ c. search (room-left, needs))
     (λ c. search needs)
     (λ c. search needs)
-    (λ c. (search needs, more-read _ (search needs) (search needs) (search needs) (search needs) (search needs) (search needs) (c .before .before .before .before .place-of .ensures) (search needs) (search needs)))
+    pair-read
     (λ c. search (read-whole, needs)))

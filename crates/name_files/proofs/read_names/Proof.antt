@@ -1,4 +1,5 @@
--- `name_files::read_names` meets its contract: the pairs put into a table of its own, and empty clues for a refused file.
+-- `name_files::read_names` meets its contract: the pairs are put
+-- into a table of its own, and a refused file gives empty clues.
 use borrow.Author.Needs.{needs}
 use Rattle.name_files.proofs.Answers.{empty-rows, table-read, table-refused}
 use Rattle.name_files.proofs.read_names.Statement.{statement}

@@ -1,4 +1,4 @@
--- `numbers::next_number` meets its contract: the number stands in the round of the next number, or in the round after it.
+-- `numbers::next_number` meets its contract: the number stands in the round of the next number, or in the one after it.
 use borrow.Author.Needs.{needs}
 use native.Mathlib.Nat.{mod-le}
 use Rattle.numbers.proofs.Numbers.{number-none, number-far, number-is, number-over, number-low, number-high}

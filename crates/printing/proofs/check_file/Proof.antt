@@ -1,5 +1,4 @@
 -- `printing::check_file` meets its contract: each way to refuse in turn.
--- Assumes nothing.
 use borrow.Author.Needs.{needs}
 use Rattle.printing.proofs.Files.{file-empty, file-long, file-uneven, file-whole}
 use Rattle.printing.proofs.check_file.Statement.{statement}

@@ -1,5 +1,4 @@
 -- `printing::read_words` meets its contract: the words before the index are read, the others as they were.
--- Assumes nothing.
 use Prim.Native.Nat.{_-_, _/_, _≤_}
 use mathlib.Core.Path.{_≡_}
 use mathlib.Core.List.{_++_}

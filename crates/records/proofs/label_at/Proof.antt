@@ -5,6 +5,10 @@ use Rattle.records.proofs.Parts.{record-label, record-long}
 use Rattle.records.proofs.label_at.Statement.{statement}
 use Rattle.records.proofs.label_at.Tie as tie
 
+-- a word is a depth that `usize` holds
+depth-fits-usize : tie.Need-cast-depth
+depth-fits-usize c = fits-widen tt (c .shared-slice-known .given _)
+
 pub label-at-spec : {M : Type 1} → statement M
 label-at-spec =
     tie.close
@@ -12,7 +16,7 @@ label-at-spec =
     (λ c. search needs)
     (λ c. search needs)
     (λ c. search needs)
-    (λ c. fits-widen tt (c .shared-slice-known .given _))
+    depth-fits-usize
     (λ c. search needs)
     (λ c. search needs)
     (λ c. search needs)

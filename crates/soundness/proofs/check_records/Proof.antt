@@ -1,6 +1,6 @@
 -- `soundness::check_records` meets its contract: a fault is refused by its rule's number.
 use borrow.Author.Needs.{needs}
-use Rattle.clue_lengths.proofs.Lens.{lens-lent}
+use Rattle.clue_lengths.proofs.Lengths.{lengths-lent}
 use Rattle.soundness.proofs.Checks.{records-sound, records-fault}
 use Rattle.soundness.proofs.check_records.Statement.{statement}
 use Rattle.soundness.proofs.check_records.Tie as tie
@@ -11,7 +11,7 @@ check-records-spec =
     (tie.spec
     (λ c κs. search needs)
     (λ c κs. search needs)
-    (λ c κs. search (lens-lent, needs))
+    (λ c κs. search (lengths-lent, needs))
     (λ c. search needs)
     (λ c. search needs)
     (λ c. search (records-sound, needs))

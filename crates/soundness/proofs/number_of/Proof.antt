@@ -1,4 +1,4 @@
--- `soundness::number_of` meets its contract: every rule has its number.
+-- `soundness::number_of` meets its contract: every rule has the paper's number.
 use borrow.Author.Needs.{needs}
 use Rattle.soundness.proofs.Checks.{numbered}
 use Rattle.soundness.proofs.number_of.Statement.{statement}

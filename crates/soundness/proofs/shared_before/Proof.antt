@@ -1,4 +1,5 @@
--- `soundness::shared_before` meets its contract: record 0 shares nothing, another what its label shares with the one before.
+-- `soundness::shared_before` meets its contract: record 0 shares nothing,
+-- another what its label shares with the label before.
 use borrow.Author.Needs.{needs}
 use Rattle.record_rules.proofs.Shared.{shares-root, shares-child}
 use Rattle.soundness.proofs.shared_before.Statement.{statement}

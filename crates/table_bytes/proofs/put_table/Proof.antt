@@ -1,5 +1,4 @@
--- `table_bytes::put_table` meets its contract: the rows before the index are written.
--- From the laws of `Bytes` on what is written so far.
+-- `table_bytes::put_table` meets its contract: the rows before the index are written, by the laws of `Bytes`.
 use borrow.Author.Needs.{needs}
 use mathlib.Core.Path.{_≡_}
 use Prim.Native.Nat.{_-_, _≤_}

@@ -1,4 +1,4 @@
--- `table_bytes::table_in` meets its contract: bytes that are a table, and others.
+-- `table_bytes::table_in` meets its contract: 4,096 bytes are the table of their rows, others one that 22 rules out.
 use borrow.Author.Needs.{needs}
 use Rattle.table_bytes.proofs.Bytes.{table-torn, table-whole}
 use Rattle.table_bytes.proofs.table_in.Statement.{statement}

@@ -1,4 +1,4 @@
--- `table_checks::all_filler` meets its contract: the numbers before the index are filling if the least of them is.
+-- `table_checks::all_filler` meets its contract: the numbers before the index are filler if the least of them is.
 use Prim.Native.Nat.{_≤_, _-_}
 use mathlib.Core.Logic.{⊎-elim}
 use borrow.Author.Needs.{needs}
@@ -14,8 +14,11 @@ Inv-loop rest least₀ i₀ least i = (i ≤ length rest) × (least ≤ filler) 
 abbrev μ-loop : tie.MeasureT-loop
 μ-loop rest least₀ i₀ least i = length rest - i
 
-loop-again : tie.Need-loop-again Inv-loop μ-loop
-loop-again c = ⊎-elim (λ w. search (least-less, needs)) (λ w. search (least-same, c .before .shared-slice-known .given, needs)) (c .if1 .came)
+-- the least of the numbers so far is known, whether the number at the index is less or not
+least-known : tie.Need-loop-again Inv-loop μ-loop
+least-known c =
+    let read : tie.After-shared-slice-known Inv-loop μ-loop = search in
+    ⊎-elim (λ w. search (least-less, needs)) (λ w. search (least-same, read .shared-slice-known .given, needs)) (c .if1 .came)
 
 pub all-filler-spec : {M : Type 1} → statement M
 all-filler-spec =
@@ -27,5 +30,5 @@ all-filler-spec =
     (λ c. search needs)
     (λ c. search needs)
     (λ c. search needs)
-    loop-again
+    least-known
     (λ c. search (least-end, needs)))

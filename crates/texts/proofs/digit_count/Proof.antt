@@ -1,5 +1,4 @@
 -- `texts::digit_count` meets its contract: the digits counted and those of the rest are all of them and one more.
--- Assumes nothing.
 use Prim.Native.Nat.{_+_}
 use mathlib.Core.Path.{_≡_}
 use borrow.Author.Needs.{needs, fits-under}

@@ -1,5 +1,4 @@
 -- `texts::put_byte` meets its contract: a byte set is a byte written.
--- Assumes nothing.
 use borrow.Author.Needs.{needs}
 use Rattle.words.proofs.Writing.{written-one}
 use Rattle.texts.proofs.put_byte.Statement.{statement}

@@ -1,5 +1,4 @@
 -- `texts::put_bytes` meets its contract: the bytes from the index on are to come.
--- Assumes nothing.
 use Prim.Native.Nat.{_+_, _-_, _≤_}
 use borrow.Author.Needs.{needs}
 use lib.ListN.{length, drop}

@@ -1,5 +1,4 @@
 -- `texts::put_decimal` meets its contract: the digits of the rest are to come before those that are written.
--- Assumes nothing.
 use Prim.Native.Nat.{_+_, _≤_}
 use mathlib.Core.Path.{_≡_}
 use borrow.Author.Needs.{needs}

@@ -1,5 +1,4 @@
 -- `texts::put_label` meets its contract: the components behind those written are to come, a dot before each.
--- Assumes nothing.
 use Prim.Native.Nat.{_-_, _≤_}
 use borrow.Author.Needs.{needs}
 use mir.Facts.{fits-widen}
@@ -31,11 +30,11 @@ put-label-spec =
     (λ c κs. search (first-room, needs))
     (λ c. search (others-pending, needs))
     (λ c. search needs)
-    (λ c κs. search (dot-room, needs))
     (λ c. search needs)
     (λ c. search needs)
     (λ c. fits-widen tt (c .shared-slice-known4 .given _))
-    (λ c κs. next-room _ (search needs) _ _ _ (c .before .before .before .before .before .before .before .loop .inv .1) (search needs) (c .before .before .before .before .put-byte2 .ensures .0) (c .before .before .before .before .put-byte2 .ensures .1))
+    (λ c κs. search (dot-room, needs))
+    (λ c κs. search (next-room, needs))
     (λ c. search needs)
     (λ c. search (next-put, needs))
     (λ c. search needs)

@@ -1,5 +1,5 @@
--- `texts::put_match` meets its contract: the labels behind those written are to come, a space before each, and a newline.
--- Assumes nothing.
+-- `texts::put_match` meets its contract: the labels behind those written are to come, a space before each, and a
+-- newline.
 use Prim.Native.Nat.{_-_, _≤_}
 use borrow.Author.Needs.{needs}
 use Rattle.texts.proofs.Texts.{Pending}

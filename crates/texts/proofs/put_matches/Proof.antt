@@ -1,5 +1,5 @@
--- `texts::put_matches` meets its contract: the lines of the matches behind those written are to come, and the line of the count.
--- Assumes nothing.
+-- `texts::put_matches` meets its contract: the lines of the matches behind those written are to come, and the line of
+-- the count.
 use Prim.Native.Nat.{_-_, _^_, _≤_}
 use borrow.Author.Needs.{needs, fits-under}
 use Rattle.printouts.specs.Printing.{matchesText}
@@ -21,7 +21,7 @@ put-matches-spec =
     (tie.spec
     Inv-loop
     μ-loop
-    (λ c. (search needs, matches-start _ _ _ _ (search needs) (search needs) (λ i. c .before .shared-slice-known .given i .fits) (search needs) (search needs)))
+    (λ c. search (matches-start, c .before .shared-slice-known .given, needs))
     (λ c. fits-under _ _ (2 ^ 63) (search (labels-fit, needs)) tt)
     (λ c. fits-under _ _ (2 ^ 63) (search (words-fit, needs)) tt)
     (λ c. fits-under _ _ (2 ^ 63) (search (bytes-fit, needs)) tt)

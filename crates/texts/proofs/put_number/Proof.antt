@@ -1,5 +1,4 @@
 -- `texts::put_number` meets its contract: the digits are written, and the newline behind them.
--- Assumes nothing.
 use borrow.Author.Needs.{needs}
 use Rattle.printouts.specs.Printing.{text}
 use Rattle.texts.proofs.Texts.{front-room, end-room, both-reach, both-put}

@@ -1,4 +1,4 @@
--- `twig_checks::check_twig` meets its contract: what is left of the check is the check of the records left.
+-- `twig_checks::check_twig` meets its contract: what is left of the check is the check of the nodes left.
 use Prim.Native.Nat.{_≤_, _-_}
 use mathlib.Core.Path.{_≡_}
 use borrow.Author.Needs.{needs}

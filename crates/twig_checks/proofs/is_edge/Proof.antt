@@ -1,4 +1,4 @@
--- `twig_checks::is_edge` meets its contract: to a child, or to a descendant.
+-- `twig_checks::is_edge` meets its contract: an edge leads to a child or to a descendant.
 use borrow.Author.Needs.{needs}
 use Rattle.twig_checks.proofs.Checks.{edge-child, edge-other}
 use Rattle.twig_checks.proofs.is_edge.Statement.{statement}

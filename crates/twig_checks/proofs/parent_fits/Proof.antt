@@ -1,4 +1,4 @@
--- `twig_checks::parent_fits` meets its contract: record 0 has no parent, another an earlier one.
+-- `twig_checks::parent_fits` meets its contract: node 0 has no parent, another an earlier one.
 use borrow.Author.Needs.{needs}
 use Rattle.twig_checks.proofs.Checks.{fits-root, fits-later}
 use Rattle.twig_checks.proofs.parent_fits.Statement.{statement}

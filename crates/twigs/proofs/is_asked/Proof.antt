@@ -1,4 +1,4 @@
--- `twigs::is_asked` meets its contract: a name, or 255.
+-- `twigs::is_asked` meets its contract: a name up to 63 may be asked for, or 255.
 use borrow.Author.Needs.{needs}
 use Rattle.twigs.proofs.Asking.{asked-name, asked-high}
 use Rattle.twigs.proofs.is_asked.Statement.{statement}

@@ -1,4 +1,4 @@
--- `twigs::node_at` meets its contract: a record is read where its bytes stand.
+-- `twigs::node_at` meets its contract: a node is read where its bytes stand.
 use borrow.Author.Needs.{needs}
 use Rattle.twigs.proofs.Nodes.{node-data}
 use Rattle.twigs.proofs.node_at.Statement.{statement}

@@ -1,4 +1,4 @@
--- `twigs::node_count` meets its contract: a record for every four bytes.
+-- `twigs::node_count` meets its contract: a twig has a node for every four bytes.
 use borrow.Author.Needs.{needs}
 use Rattle.twigs.proofs.Nodes.{length-twig}
 use Rattle.twigs.proofs.node_count.Statement.{statement}

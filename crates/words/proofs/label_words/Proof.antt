@@ -1,5 +1,4 @@
 -- `words::label_words` meets its contract: the words before the index are copied.
--- Assumes nothing.
 use borrow.Author.Needs.{needs}
 use mathlib.Core.Path.{_≡_}
 use Prim.Native.Nat.{_-_, _≤_}

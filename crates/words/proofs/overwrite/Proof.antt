@@ -1,5 +1,4 @@
--- `words::overwrite` meets its contract: the words before the index are written.
--- From the laws of `Words` on what is written so far.
+-- `words::overwrite` meets its contract: the words before the index are written, by the laws of `Words`.
 use Prim.Native.Nat.{_≤_, _-_}
 use mathlib.Core.Path.{_≡_}
 use mathlib.Core.List.{_++_}

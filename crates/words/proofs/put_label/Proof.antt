@@ -1,5 +1,4 @@
 -- `words::put_label` meets its contract: the part lent holds the label, which is written over its front.
--- Assumes nothing.
 use borrow.Author.Needs.{needs}
 use Rattle.words.proofs.Labels.{label-put}
 use Rattle.words.proofs.put_label.Statement.{statement}

@@ -1,4 +1,4 @@
--- `zeros::all_zero` meets its contract: the words before the loop's index, all together.
+-- `zeros::all_zero` meets its contract: what is gathered is 0 if all words before the loop's index are.
 use borrow.Author.Needs.{needs}
 use Prim.Native.Nat.{_≤_, _-_}
 use mathlib.Core.Path.{_≡_}

@@ -492,7 +492,7 @@ impl Beside {
     }
 
     /// Matches into an output of so many words and gives the output too.
-    pub fn find_matches(
+    pub fn match_twig(
         &mut self,
         table: &[u8],
         root: u8,
@@ -503,12 +503,12 @@ impl Beside {
     ) -> (Reply, Vec<u16>) {
         let call = Call::FindMatches;
         let mut after = vec![UNTOUCHED_WORD; out_len];
-        let answer = twigs::find_matches(table, root, twig, counts, buffer, &mut after);
+        let answer = twigs::match_twig(table, root, twig, counts, buffer, &mut after);
         let reply = self.held(call, Reply::of(answer, 0), |_, slot| {
             let (lent_table, lent_twig) = (lend(table), lend(twig));
             let (lent_counts, lent) = (lend(counts), lend(buffer));
             let mut out = vec![UNTOUCHED_WORD; out_len];
-            let number = ffi::find_matches(
+            let number = ffi::match_twig(
                 &lent_table,
                 root,
                 &lent_twig,
@@ -526,7 +526,7 @@ impl Beside {
         });
         if let Ok(table) = Table::from_bytes(table) {
             let mut out = vec![UNTOUCHED_WORD; out_len];
-            let wrapped = jiszteruk::find_matches(&table, root, twig, counts, buffer, &mut out);
+            let wrapped = jiszteruk::match_twig(&table, root, twig, counts, buffer, &mut out);
             assert_eq!(wrapped, reply.result());
             same(call, "wrapper's output", &out, &after);
         }

@@ -27,7 +27,7 @@ pub fn call(run: &Run, beside: &mut Beside, rng: &mut Rng) {
         20..=22 => delete(run, beside, rng),
         23..=25 => cut(run, beside, rng),
         26 | 27 => check_twig(run, beside, rng),
-        _ => find_matches(run, beside, rng),
+        _ => match_twig(run, beside, rng),
     }
 }
 
@@ -133,7 +133,7 @@ fn check_twig(run: &Run, beside: &mut Beside, rng: &mut Rng) {
     beside.check_twig(&damaged);
 }
 
-fn find_matches(run: &Run, beside: &mut Beside, rng: &mut Rng) {
+fn match_twig(run: &Run, beside: &mut Beside, rng: &mut Rng) {
     let mut twig = run.twig(rng);
     let (mut root, mut table) = (run.root, run.table.clone());
     let nodes = read_twig(&twig).expect("the twig is a good one");
@@ -149,7 +149,7 @@ fn find_matches(run: &Run, beside: &mut Beside, rng: &mut Rng) {
         3 | 4 => samples::damage_streams(rng, &mut streams),
         _ => {}
     }
-    beside.find_matches(&table, root, &twig, &streams.counts, &streams.buffer, room);
+    beside.match_twig(&table, root, &twig, &streams.counts, &streams.buffer, room);
 }
 
 /// Labels for streams: the run's, or some that no store need have.

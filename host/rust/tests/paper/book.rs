@@ -28,7 +28,7 @@ pub struct Book {
 }
 
 impl Book {
-    /// A new store opens it: 18, 21.
+    /// A new store opens the book: 18, 21.
     pub fn open(len: usize, root: u8, payload: [u16; 2]) -> Answer<Book> {
         check_length(len)?;
         check_root(root)?;

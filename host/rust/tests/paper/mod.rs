@@ -51,6 +51,6 @@ pub mod number {
     pub const BAD_ROOT: u8 = 21;
     pub const BAD_TABLE: u8 = 22;
 
-    /// The last of them.
+    /// The highest number of a refusal.
     pub const HIGHEST: usize = 22;
 }

@@ -2,10 +2,10 @@
 
 use super::{number, refuse, refuse_at, Answer};
 
-/// Names are the numbers below.
+/// How many names there are: names are the numbers below it.
 pub const NAMES: usize = 64;
 /// Fills up a row of a table.
-pub const FILLING: u8 = 255;
+pub const FILLER: u8 = 255;
 /// Asks for any name, in a twig and in cutting.
 pub const ANY: u8 = 255;
 /// The bytes of a table.
@@ -64,7 +64,7 @@ pub fn read_file(file: &[u8]) -> Answer<Clues> {
 pub fn rows(clues: &Clues) -> Vec<u8> {
     let row = |clue: &Vec<u8>| {
         let mut row = clue.clone();
-        row.resize(NAMES, FILLING);
+        row.resize(NAMES, FILLER);
         row
     };
     clues.iter().flat_map(row).collect()
@@ -72,7 +72,7 @@ pub fn rows(clues: &Clues) -> Vec<u8> {
 
 /// The table of empty clues.
 pub fn empty_table() -> Vec<u8> {
-    vec![FILLING; TABLE_BYTES]
+    vec![FILLER; TABLE_BYTES]
 }
 
 /// The clues of a table: 22.
@@ -86,10 +86,10 @@ pub fn read_table(table: &[u8]) -> Answer<Clues> {
 
 /// The clue of a row, if the row is a good one.
 fn read_row(row: &[u8]) -> Option<Vec<u8>> {
-    let used = row.iter().take_while(|&&entry| entry != FILLING).count();
+    let used = row.iter().take_while(|&&entry| entry != FILLER).count();
     let (clue, rest) = row.split_at(used);
     let names_only = clue.iter().all(|&entry| is_name(entry));
-    let filled_up = rest.iter().all(|&entry| entry == FILLING);
+    let filled_up = rest.iter().all(|&entry| entry == FILLER);
     let once_each = (0..used).all(|at| !clue[..at].contains(&clue[at]));
     (names_only && filled_up && once_each).then(|| clue.to_vec())
 }

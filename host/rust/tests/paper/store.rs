@@ -37,7 +37,7 @@ pub fn lay_out_records(records: &[Record]) -> Vec<u16> {
     records.iter().flat_map(Record::words).collect()
 }
 
-/// The part of 18 that also a new store has.
+/// 18 by the length alone, as a new store has it.
 pub fn check_length(len: usize) -> Answer<()> {
     if len == 0 || !len.is_multiple_of(RECORD_WORDS) {
         return refuse(number::STORE_SIZE);
@@ -45,7 +45,7 @@ pub fn check_length(len: usize) -> Answer<()> {
     Ok(())
 }
 
-/// 18, for every call that is handed a count.
+/// 18 by length and count, for every call that is handed a count.
 pub fn check_size(len: usize, count: usize) -> Answer<()> {
     check_length(len)?;
     if count == 0 || count > len / RECORD_WORDS || count > MAX_RECORDS {

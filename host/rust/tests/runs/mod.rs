@@ -50,7 +50,7 @@ fn agree<T>(reply: Reply, book: &Answer<T>) {
     }
 }
 
-/// The matches that give no twig record a label of this kind.
+/// The matches that give no node a label of this kind.
 fn without(list: &[Match], gone: impl Fn(&Label) -> bool) -> Vec<Match> {
     let kept = list.iter().filter(|labels| !labels.iter().any(&gone));
     kept.cloned().collect()
@@ -230,8 +230,7 @@ impl Run {
         let Streams { counts, buffer } = Streams::of(&lines);
         let expected = lay_out_all(list.iter().flatten());
         let room = expected.len() + rng.below(2);
-        let (reply, out) =
-            beside.find_matches(&self.table, self.root, twig, &counts, &buffer, room);
+        let (reply, out) = beside.match_twig(&self.table, self.root, twig, &counts, &buffer, room);
         assert_eq!((reply.number, reply.value), (0, list.len()));
         assert_eq!(
             out[..expected.len()],

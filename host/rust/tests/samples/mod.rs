@@ -3,7 +3,7 @@
 use crate::paper::labels::{
     components, lay_out, lay_out_all, name_of, Label, LABEL_WORDS, MAX_COMPONENT, MAX_DEPTH,
 };
-use crate::paper::names::{Clues, ANY, BENCH_FILE, FILLING, NAMES, TABLE_BYTES};
+use crate::paper::names::{Clues, ANY, BENCH_FILE, FILLER, NAMES, TABLE_BYTES};
 use crate::paper::store::{MAX_RECORDS, NAME_AT, NEXT_AT, RECORD_WORDS};
 use crate::paper::twigs::{leaves, Twig, MAX_STREAM, MAX_TWIG, NODE_BYTES, NO_PARENT};
 
@@ -121,11 +121,11 @@ pub fn damaged_table(rng: &mut Rng, table: &[u8]) -> Vec<u8> {
     let row = NAMES * rng.below(NAMES);
     let (first, second) = (row + rng.below(NAMES), row + rng.below(NAMES));
     match rng.below(7) {
-        0 => table.resize(*rng.pick(&[0, 1, 64, 4_095, 4_097, 8_192]), FILLING),
+        0 => table.resize(*rng.pick(&[0, 1, 64, 4_095, 4_097, 8_192]), FILLER),
         1 => table[first] = *rng.pick(&[64, 65, 254]),
         2 => table[first] = rng.byte(),
         3 => table[row + NAMES - 1] = rng.below(NAMES) as u8,
-        4 => table[row] = FILLING,
+        4 => table[row] = FILLER,
         5 => table[first] = table[second],
         _ => table.swap(first, second),
     }
@@ -311,16 +311,16 @@ fn name_asked(rng: &mut Rng, names: &[u8]) -> u8 {
     }
 }
 
-/// A good twig of random records.
+/// A good twig of random nodes.
 pub fn twig(rng: &mut Rng, names: &[u8]) -> Vec<u8> {
-    let records = 1 + rng.below(MAX_TWIG / NODE_BYTES);
+    let nodes = 1 + rng.below(MAX_TWIG / NODE_BYTES);
     let chain = rng.one_in(3);
     let mut twig = Vec::new();
-    for record in 0..records {
-        let parent = match record {
+    for node in 0..nodes {
+        let parent = match node {
             0 => NO_PARENT,
-            _ if chain => record as u8 - 1,
-            _ => rng.below(record) as u8,
+            _ if chain => node as u8 - 1,
+            _ => rng.below(node) as u8,
         };
         let edge = u8::from(!rng.one_in(3));
         twig.extend([parent, edge, name_asked(rng, names), 0]);
@@ -331,12 +331,12 @@ pub fn twig(rng: &mut Rng, names: &[u8]) -> Vec<u8> {
 /// A good twig laid over these labels and names, so that there is a match. The labels are those of
 /// a whole tree.
 pub fn twig_over(rng: &mut Rng, tree: &[(Label, u8)]) -> Vec<u8> {
-    let records = 1 + rng.below(MAX_TWIG / NODE_BYTES);
+    let nodes = 1 + rng.below(MAX_TWIG / NODE_BYTES);
     let mut chosen = vec![rng.pick(tree).clone()];
     let at_root = chosen[0].0.is_empty() && rng.one_in(2);
     let asked = |rng: &mut Rng, name: u8| if rng.one_in(4) { ANY } else { name };
     let mut twig = vec![NO_PARENT, u8::from(!at_root), asked(rng, chosen[0].1), 0];
-    for _ in 1..records {
+    for _ in 1..nodes {
         let parent = rng.below(chosen.len());
         let above = chosen[parent].0.clone();
         let below: Vec<_> = tree
@@ -357,15 +357,15 @@ pub fn twig_over(rng: &mut Rng, tree: &[(Label, u8)]) -> Vec<u8> {
 /// A twig with a fault in one field or in its length.
 pub fn damaged_twig(rng: &mut Rng, twig: &[u8]) -> Vec<u8> {
     let mut twig = twig.to_vec();
-    let record = NODE_BYTES * rng.below(twig.len() / NODE_BYTES);
+    let node = NODE_BYTES * rng.below(twig.len() / NODE_BYTES);
     match rng.below(8) {
         0 => twig.truncate(*rng.pick(&[0, 1, 2, 3, 5])),
         1 => twig.resize(*rng.pick(&[33, 36, 40, 64]), 0),
-        2 => twig[record] = *rng.pick(&[0, 1, 7, 8, 254, NO_PARENT]),
-        3 => twig[record] = (record / NODE_BYTES) as u8,
-        4 => twig[record + 1] = *rng.pick(&[2, 3, 255]),
-        5 => twig[record + 2] = *rng.pick(&[64, 65, 254]),
-        6 => twig[record + 3] = *rng.pick(&[1, 255]),
+        2 => twig[node] = *rng.pick(&[0, 1, 7, 8, 254, NO_PARENT]),
+        3 => twig[node] = (node / NODE_BYTES) as u8,
+        4 => twig[node + 1] = *rng.pick(&[2, 3, 255]),
+        5 => twig[node + 2] = *rng.pick(&[64, 65, 254]),
+        6 => twig[node + 3] = *rng.pick(&[1, 255]),
         _ => {
             let at = rng.below(twig.len());
             twig[at] = rng.byte();

@@ -1,4 +1,4 @@
--- `records::Store::is_slice` meets its contract: two tests in turn.
+-- `records::Store::is_slice` meets its contract: the two tests of a slice's length in turn.
 use borrow.Author.Needs.{needs}
 use Rattle.records.proofs.Sizes.{slice-multiple, slice-odd}
 use Rattle.records.proofs.Store.is_slice.Statement.{statement}

@@ -1,4 +1,4 @@
--- `slow_matches::twig_making::make_twig` ends: it counts up to the records.
+-- `slow_matches::twig_making::make_twig` ends: it counts up to the nodes.
 use borrow.Author.Needs.{needs}
 use Prim.Native.Nat.{_-_, _≤_}
 use mathlib.Core.Path.{_≡_}

@@ -1,0 +1,34 @@
+-- `host_answers::tell_label` meets its contract: the numbers before the index are put, by the laws of `Fits`.
+use borrow.Author.Needs.{needs}
+use mathlib.Core.Path.{_≡_}
+use mathlib.Core.List.{_++_}
+use Prim.Native.Nat.{_-_, _≤_}
+use lib.ListN.{length, take, drop}
+use Rattle.host_answers.proofs.Fits.{fit-more, fit-short, fit-all}
+use Rattle.host_answers.proofs.tell_label.Statement.{statement}
+use Rattle.host_answers.proofs.tell_label.Tie as tie
+
+abbrev Inv-loop : tie.InvT-loop
+Inv-loop words out₀ i₀ out i = (i ≤ length words) × (i ≤ length out₀) × (length out ≡ length out₀) × (out ≡ take i words ++ drop i out₀)
+
+abbrev μ-loop : tie.MeasureT-loop
+μ-loop words out₀ i₀ out i = length words - i
+
+pub tell-label-spec : {M : Type 1} → statement M
+tell-label-spec =
+    tie.close
+    (tie.spec
+    Inv-loop
+    μ-loop
+    (λ c. search needs)
+    (λ c. search needs)
+    (λ c. search (fit-short, needs))
+    (λ c. search needs)
+    (λ c. search needs)
+    (λ c. search needs)
+    (λ c. search needs)
+    (λ c. search needs)
+    (λ c. search needs)
+    (λ c. search (fit-more, needs))
+    (λ c. search needs)
+    (λ c. search (fit-all, needs)))

@@ -1,0 +1,2 @@
+-- Sums and products cut at a cap.
+pub mod Capped

@@ -1,5 +1,0 @@
--- What callers may use of shares, then the labels of a stream, names written, the whole stream.
-pub mod Shares
-pub mod Labels
-pub mod Rows
-pub mod Reading

@@ -1,5 +1,0 @@
--- What callers may use of the names along a label, then the words of a stream, names led on, one label.
-pub mod Along
-pub mod Words
-pub mod Leading
-pub mod Links
