@@ -14,6 +14,10 @@ Inv-loop n rest₀ count₀ rest count = count + length (decimal rest) ≡ lengt
 abbrev μ-loop : tie.MeasureT-loop
 μ-loop n rest₀ count₀ rest count = rest
 
+-- the count of digits fits a number of the machine
+count-fits : tie.Need-add-count Inv-loop μ-loop
+count-fits c = fits-under _ _ 23 (search (count-few, needs)) tt
+
 pub digit-count-spec : {M : Type 1} → statement M
 digit-count-spec =
     tie.close
@@ -21,7 +25,7 @@ digit-count-spec =
     Inv-loop
     μ-loop
     (λ c. search needs)
-    (λ c. fits-under _ _ 23 (search (count-few, needs)) tt)
+    count-fits
     (λ c. search needs)
     (λ c. search (count-more, needs))
     (λ c. search (count-end, needs)))

@@ -14,6 +14,18 @@ Inv-loop text₀ at words depth end₀ i₀ text end i = (i ≤ getD words 0 0) 
 abbrev μ-loop : tie.MeasureT-loop
 μ-loop text₀ at words depth end₀ i₀ text end i = depth - i
 
+-- a word is a depth that `usize` holds
+depth-fits : tie.Need-cast-depth Inv-loop μ-loop
+depth-fits c = fits-widen tt (c .shared-slice-known2 .given _)
+
+-- the first component is a number that `usize` holds
+first-fits : tie.Need-cast-put-decimal Inv-loop μ-loop
+first-fits c = fits-widen tt (c .shared-slice-known3 .given _)
+
+-- a later component is a number that `usize` holds
+component-fits : tie.Need-cast-component Inv-loop μ-loop
+component-fits c = fits-widen tt (c .shared-slice-known4 .given _)
+
 pub put-label-spec : {M : Type 1} → statement M
 put-label-spec =
     tie.close
@@ -21,18 +33,18 @@ put-label-spec =
     Inv-loop
     μ-loop
     (λ c. search needs)
-    (λ c. fits-widen tt (c .shared-slice-known2 .given _))
+    depth-fits
     (λ c κs. search (root-room, needs))
     (λ c. search needs)
     (λ c. search (root-reach, root-put, needs))
     (λ c. search needs)
-    (λ c. fits-widen tt (c .shared-slice-known3 .given _))
+    first-fits
     (λ c κs. search (first-room, needs))
     (λ c. search (others-pending, needs))
     (λ c. search needs)
     (λ c. search needs)
     (λ c. search needs)
-    (λ c. fits-widen tt (c .shared-slice-known4 .given _))
+    component-fits
     (λ c κs. search (dot-room, needs))
     (λ c κs. search (next-room, needs))
     (λ c. search needs)
