@@ -3,9 +3,9 @@
  * Answers. Every call answers 0 where it is taken, else the number of its refusal. A refusal is given on its
  * stated fact and on no other, and the comment of a call lists its checks in their order: the first that fails
  * settles the number. Every call but jiszteruk_bench_table writes two words to `answer`: the place and the
- * call's value. The place is the pair (2, 3), node (5 to 8), record (19) or label (20) counted from 0, or the
- * component counted from 1 (16); in every other refusal, and where the call is taken, it is 0. The value is 0
- * where the comment names none, and in a refusal unless the comment says otherwise.
+ * call's value. The place is the pair (2, 3), node (5 to 8), record (19, 23 to 25) or label (20) counted from 0,
+ * or the component counted from 1 (16); in every other refusal, and where the call is taken, it is 0. The value is
+ * 0 where the comment names none, and in a refusal unless the comment says otherwise.
  *
  * Slices. A slice is a pointer and its length in elements. Whatever stands in the slices is answered; no call
  * asks anything of what they hold. But the pointers are the caller's care:
@@ -94,12 +94,22 @@ extern "C" {
 #define JISZTERUK_SHORT_OUTPUT 17 /* output shorter than the whole result */
 #define JISZTERUK_STORE_SIZE 18   /* store length not a multiple of 20, or 0, or (but for a new store) a count of 0,
                                      over the slice or over 4,096 */
-#define JISZTERUK_UNSOUND 19      /* an unsound record */
+#define JISZTERUK_BAD_LAYOUT 19   /* a record not laid out as one.
+                                     On the phone: a torn file, take the copy before */
 #define JISZTERUK_BAD_STREAM 20   /* streams: counts, the buffer's length, or a label that 15, 16, name or order
                                      rules out */
 #define JISZTERUK_BAD_ROOT 21     /* root name above 63 */
 #define JISZTERUK_BAD_TABLE 22    /* not 4,096 bytes, an entry 64 to 254, a number after a 255, or a name that
                                      stands twice in one row */
+#define JISZTERUK_BAD_ORDER 23    /* a record out of label order, or without its parent before it.
+                                     On the phone: a torn file, take the copy before */
+#define JISZTERUK_BAD_NAME 24     /* a record's name not the decoded one, or record 0's above 63.
+                                     On the phone: a wrong name table, look for the other names.tab; at record 0 a
+                                     torn file, take the copy before */
+#define JISZTERUK_BAD_NEXT 25     /* a record's last component not below its parent's next number, or its own next
+                                     number not 0 where nothing may stand below it.
+                                     On the phone: a short name table or a torn file, look for the other names.tab,
+                                     then take the copy before */
 
 /* Kinship: what the first label is to the second. */
 #define JISZTERUK_KIN_SAME 0
@@ -161,12 +171,16 @@ uint8_t jiszteruk_new_store(uint16_t *store, size_t store_len, uint8_t root,
                             uint16_t payload0, uint16_t payload1,
                             size_t *answer, size_t answer_len);
 
-/* Checks a store: the first record that breaks a rule, read from the front, is refused 19. A record is sound
- * when, in this order: depth is at most 15, 0 for record 0 only, used components at most 65,534, unused ones 0;
- * its label is after the previous record's; its parent stands earlier; its name is the decoded one (record 0:
- * any of 0 to 63); its last component is below its parent's next number; its own next number is 0 if its clue is
- * empty or its depth is 15.
- * Refusals: 22, 18, 19. */
+/* Checks a store: the first record that breaks a rule, read from the front, is refused by the first rule that it
+ * breaks. The rules, in this order:
+ *   19  depth is at most 15, 0 for record 0 only, used components at most 65,534, unused ones 0;
+ *   23  its label is after the previous record's; its parent stands earlier;
+ *   24  its name is the decoded one (record 0: any of 0 to 63);
+ *   25  its last component is below its parent's next number; its own next number is 0 if its clue is empty or its
+ *       depth is 15.
+ * A store refused 19 or 23, or 24 at record 0, is refused under every name table: its file is torn. One that is whole
+ * under some table is refused under another by 24 or 25 alone.
+ * Refusals: 22; 18; then record by record 19, 23, 24, 25. */
 uint8_t jiszteruk_check_store(const uint8_t *table, size_t table_len,
                               const uint16_t *store, size_t store_len, size_t count,
                               size_t *answer, size_t answer_len);
@@ -177,7 +191,7 @@ uint8_t jiszteruk_check_store(const uint8_t *table, size_t table_len,
  * parent's whole subtree; later ones move up. Words past the last record are untouched.
  * `label` gets the new label; the value is the new count. A refusal gives sixteen zeros, and its value is the
  * count as given.
- * Refusals: 22, 18, 19, 15, 9, 10, 11, 12, 13. */
+ * Refusals: 22; 18; record by record 19, 23, 24, 25; 15, 9, 10, 11, 12, 13. */
 uint8_t jiszteruk_enter(const uint8_t *table, size_t table_len,
                         uint16_t *store, size_t store_len, size_t count,
                         const uint16_t *parent, size_t parent_len, uint8_t name,
@@ -188,7 +202,7 @@ uint8_t jiszteruk_enter(const uint8_t *table, size_t table_len,
 /* Deletes the element with a label and all below it: closes the gap and fills the freed records with zeros;
  * words past these are untouched. Freed room is used again, freed numbers are not. The value is the new count,
  * in a refusal the count as given.
- * Refusals: 22, 18, 19, 15, 14, 9. */
+ * Refusals: 22; 18; record by record 19, 23, 24, 25; 15, 14, 9. */
 uint8_t jiszteruk_delete(const uint8_t *table, size_t table_len,
                          uint16_t *store, size_t store_len, size_t count,
                          const uint16_t *label, size_t label_len,
@@ -198,7 +212,7 @@ uint8_t jiszteruk_delete(const uint8_t *table, size_t table_len,
 
 /* Cuts the stream of a name, or of all names for 255: its labels in label order, 16 words each, written to `out`
  * from its start. The value is how many labels the stream has.
- * Refusals: 22, 18, 19, 7, 17. */
+ * Refusals: 22; 18; record by record 19, 23, 24, 25; 7, 17. */
 uint8_t jiszteruk_cut(const uint8_t *table, size_t table_len,
                       const uint16_t *store, size_t store_len, size_t count, uint8_t name,
                       uint16_t *out, size_t out_len,

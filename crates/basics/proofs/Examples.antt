@@ -16,7 +16,7 @@ pub limits-are : limits ≡ 63 ∷ 64 ∷ 255 ∷ 8192 ∷ 65534 ∷ 15 ∷ 4096
 unfolding computing
 limits-are = refl
 
--- the refusals are numbered 1 to 22
-pub numbers-are : numbers ≡ map suc (upTo 22)
+-- the refusals are numbered 1 to 25
+pub numbers-are : numbers ≡ map suc (upTo 25)
 unfolding computing
 numbers-are = refl

@@ -50,7 +50,7 @@ pub data Call : Type 0 where
   deletion : (label : List ℕ) → Call
 
 -- The book's refusal of a call, the lines standing for the records in use.
--- 22 and 19 are missing: the table is an accepted one, and that the records are always sound is part of what is proved.
+-- 22, 19 and 23 to 25 are missing: the table is an accepted one, and that the records are always sound is proved.
 unfoldable pub bookRefusal : Clues → Book → ℕ → Call → Option Refusal
 bookRefusal cl b len (entry new) =
     first

@@ -12,7 +12,7 @@ use Rattle.refusals.specs.Answers.{verdictOf}
 use Rattle.store_checks.specs.Stores.{storeCheck}
 use Rattle.changes.specs.declared.Change.{Change}
 
--- the checks before those of a call's own, of table, sizes, records and label, in this order: 22, 18, 19, 15
+-- the checks before those of a call's own, of table, sizes, records and label, in this order: 22, 18, 19, 23 to 25, 15
 unfoldable pub callCheck : Table → List ℕ → ℕ → List ℕ → Option Refusal
 callCheck rows ws count lw = first (storeCheck rows ws count ∷ labelCheck lw ∷ [])
 

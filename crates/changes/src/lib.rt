@@ -36,7 +36,7 @@ pub fn root_record(root: u8, payload: [u16; 2]) -> [u16; 20]
     rec
 }
 
-// The checks before those of a call's own: 22, 18, 19 and 15.
+// The checks before those of a call's own: 22, 18, 19, 23 to 25 and 15.
 pub fn check_call(table: &Table, words: &[u16], count: usize, label: &[u16]) -> Verdict
     ensures { λ v. ⌜ v ≡ verdictOf (callCheck (now (table .entry)) (now (words .entry)) count (now (label .entry))) ⌝ }
 {

@@ -27,7 +27,7 @@ streams t es = map (λ r. elim? r [] (λ want. stream want es)) (wanted t)
 unfoldable pub fullList : Clues → ℕ → Twig → List Element → List Match
 fullList cl root t es = matches cl root t (streams t es)
 
--- cutting is refused by 22, 18, 19, 7, 17, in this order
+-- cutting is refused by 22, 18, 19, 23 to 25, 7, 17, in this order
 unfoldable pub cutRefusal : Table → List ℕ → ℕ → ℕ → List ℕ → Option Refusal
 cutRefusal rows ws count want out =
     first

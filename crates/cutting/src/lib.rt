@@ -63,7 +63,8 @@ fn write_stream(store: &[u16], count: usize, want: u8, out: &mut [u16])
     }
 }
 
-// Cutting, 22, 18, 19, 7, 17: the stream of a name is written to the output. A refusal leaves the output as it was.
+// Cutting, 22, 18, 19, 23 to 25, 7, 17: the stream of a name is written to the output.
+// A refusal leaves the output as it was.
 pub fn cut(table: Table, store: &[u16], count: usize, want: u8, out: &mut [u16]) -> Listing
     ensures { λ r. ⌜ filled r (now (out .exit)) ≡ listingOf (spec.cut table (now (store .entry)) count want (now (out .entry))) ⌝ }
 {

@@ -31,7 +31,7 @@ fn remove_subtree(words: &mut [u16], count: usize, a: usize, label: &[u16]) -> C
     }
 }
 
-// A deletion of the element with a label and of all below it: 22, 18, 19, 15, 14, 9.
+// A deletion of the element with a label and of all below it: 22, 18, 19, 23 to 25, 15, 14, 9.
 pub fn delete(table: Table, words: &mut [u16], count: usize, label: &[u16]) -> Change
     ensures { λ r. ⌜ changed r (now (words .exit)) ≡ changeOf (spec.delete table (now (words .entry)) count (now (label .entry))) ⌝ }
 {

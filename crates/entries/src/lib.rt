@@ -85,7 +85,7 @@ fn enter_below(
     }
 }
 
-// An entry below the record with a label: 22, 18, 19, 15, 9, 10, 11, 12, 13.
+// An entry below the record with a label: 22, 18, 19, 23 to 25, 15, 9, 10, 11, 12, 13.
 pub fn enter(
     table: Table,
     words: &mut [u16],

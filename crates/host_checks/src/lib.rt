@@ -16,7 +16,7 @@ pub extern "C" fn jiszteruk_check_table(table: &[u8], answer: &mut [usize]) -> u
     tell(table_checks::check_table(table_in(table)), 0, answer)
 }
 
-// The check of a store: 22, 18, 19.
+// The check of a store: 22, 18, 19, 23 to 25.
 #[no_mangle]
 pub extern "C" fn jiszteruk_check_store(
     table: &[u8],

@@ -9,7 +9,8 @@ ghost use Rattle.table_bytes.specs.Rows.{tableIn};
 ghost use Rattle.host_answers.specs.Reports.{report};
 ghost use Rattle.host_lists.specs.Calls.{listingReport};
 
-// The stream of a name, or of all names for 255: 22, 18, 19, 7, 17. The value is how many labels the stream has.
+// The stream of a name, or of all names for 255: 22, 18, 19, 23 to 25, 7, 17.
+// The value is how many labels the stream has.
 #[no_mangle]
 pub extern "C" fn jiszteruk_cut(
     table: &[u8],

@@ -25,7 +25,7 @@ pub extern "C" fn jiszteruk_new_store(
     tell(verdict, opened.count, answer)
 }
 
-// An entry, 22, 18, 19, 15, 9, 10, 11, 12, 13. The value is the count;
+// An entry, 22, 18, 19, 23 to 25, 15, 9, 10, 11, 12, 13. The value is the count;
 // the new label is sixteen words, zeros in a refusal.
 #[no_mangle]
 pub extern "C" fn jiszteruk_enter(
@@ -57,7 +57,7 @@ pub extern "C" fn jiszteruk_enter(
     tell(verdict, entered.count, answer)
 }
 
-// A deletion of the element with a label and of all below it: 22, 18, 19, 15, 14, 9. The value is the count.
+// A deletion of the element with a label and of all below it: 22, 18, 19, 23 to 25, 15, 14, 9. The value is the count.
 #[no_mangle]
 pub extern "C" fn jiszteruk_delete(
     table: &[u8],

@@ -21,6 +21,7 @@ use Rattle.book.proofs.InOrder.{lineAt-mem, struck-iff}
 use Rattle.book.proofs.Calls.{Ready}
 use Rattle.book.proofs.Answers.{parent, deletion-found, refused-alike, deletion-book, refused-holds, num, deletion-answer, entry-answer, entry-book, entry-length, entry-good}
 use Rattle.model.proofs.Streams.{deletion-matches, entry-matches}
+use Rattle.model.proofs.RefusedBy.{run-by}
 
 -- a line with another label is left as it was
 unmoved : (l : Label) (f : ℕ) (x : Line) → (x .label ≡ l → ⊥) → x ≡ moved l f x
@@ -98,7 +99,12 @@ module _ {rows : Table} {root : ℕ} {b : Book} {g : List Label} {slice : List �
 
   -- the call that comes next does what demand 3 says of it
   pub next : (c : Call) → Next rows root (length b) b slice c
-  next c = record { refusedAlike = refused-alike ready c; refused = refused-holds ready c; accepted = accepted c }
+  next c = record {
+    refusedAlike = refused-alike ready c;
+    refusedBy = λ r e. run-by (cluesOf rows) b (length slice) c r (sym (refused-alike ready c) ∙ e);
+    refused = refused-holds ready c;
+    accepted = accepted c;
+  }
     where
       accepted : (c : Call) → answer rows slice (length b) c .refusal ≡ none → Accepted rows root (length b) b (bookAfter (cluesOf rows) b (length slice) c) slice c
       accepted (entry new) e = entry-holds new e

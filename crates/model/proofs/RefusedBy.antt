@@ -8,7 +8,7 @@ use native.Mathlib.Omega.{arith}
 use lib.ListN.{length}
 use lib.Dec.{T, eqb, ltb, leb, T-not}
 use Rattle.basics.specs.Basics.{_∈_, elim?, stands}
-use Rattle.basics.specs.Refusals.{Refusal, refuse, check, first, fileLength, nameTooHigh, pairAgain, twigLength, twigParent, twigEdge, nameAsked, twigEnd, noRecord, notInClue, tooDeep, noNumber, noSpace, rootStays, notLabel, emptyClue, shortOutput, storeSize, unsound, badStream, badRoot, badTable}
+use Rattle.basics.specs.Refusals.{Refusal, refuse, check, first, fileLength, nameTooHigh, pairAgain, twigLength, twigParent, twigEdge, nameAsked, twigEnd, noRecord, notInClue, tooDeep, noNumber, noSpace, rootStays, notLabel, emptyClue, shortOutput, storeSize, badLayout, badStream, badRoot, badTable, badOrder, badName, badNext}
 use Rattle.basics.specs.Limits.{maxDepth, maxComponent}
 use Rattle.naming.specs.Names.{Table, Clues, cluesOf, placeIn, Pair, pairs, pairCheck, pairsCheck, fileCheck, tableCheck, rootCheck}
 use Rattle.labelling.specs.Numbers.{number}
@@ -20,13 +20,14 @@ use Rattle.storage.specs.Store.{Element, sizeCheck, soundCheck}
 use Rattle.store_calls.specs.Updates.{parentCheck, spaceCheck, rootStaysCheck, foundCheck, newStoreRefusal, entryRefusal, deletionRefusal}
 use Rattle.cut_calls.specs.Cutting.{cutRefusal}
 use Rattle.printouts.specs.Printing.{storeFileCheck, bufferCheck, printRefusal}
-use Rattle.model.specs.RefusedBy.{RefusedBy, placedNumbers, fileNumbers, decodingNumbers, labelNumbers, newStoreNumbers, entryNumbers, deletionNumbers, cutNumbers, matchNumbers, printNumbers}
+use Rattle.book.specs.Book.{Book, Call, entry, deletion, bookRefusal}
+use Rattle.model.specs.RefusedBy.{RefusedBy, placedNumbers, fileNumbers, decodingNumbers, labelNumbers, newStoreNumbers, entryNumbers, deletionNumbers, runNumbers, cutNumbers, matchNumbers, printNumbers}
 use Rattle.basics.proofs.Tests.{and-iff, eqb-alike}
 use Rattle.basics.proofs.Lists.{stands-iff}
 use Rattle.basics.proofs.Refusals.{at, Each, each-none, each-refuse, each-check, each-first, each-last}
 use Rattle.labelling.proofs.Decode.{starts}
 use Rattle.match_calls.proofs.StreamFacts.{streamsCheck-refused}
-use Rattle.storage.proofs.Faults.{unsound-number}
+use Rattle.storage.proofs.Faults.{sound-refusal, rule-numbers}
 
 -- a refusal by a number has a property that all refusals by that number have
 numbered : (P : Refusal → Type 0) (r : Refusal) (n : ℕ) → r .number ≡ n → ((i : ℕ) → P (at n i)) → P r
@@ -61,9 +62,12 @@ module _ (P : Refusal → Type 0) where
   unfolding sizeCheck
   each-size len count p = each-check P _ storeSize 0 p
 
-  -- the check of the records in use refuses by 19 at a record
-  each-sound : (cl : Clues) (count : ℕ) (ws : List ℕ) → ((i : ℕ) → P (at unsound i)) → Each P (soundCheck cl count ws)
-  each-sound cl count ws p r e = numbered P r unsound (unsound-number cl count ws r e) p
+  -- the check of the records in use refuses by 19, 23, 24 or 25 at a record
+  each-sound : (cl : Clues) (count : ℕ) (ws : List ℕ) → ((i : ℕ) → P (at badLayout i)) → ((i : ℕ) → P (at badOrder i)) → ((i : ℕ) → P (at badName i)) →
+      ((i : ℕ) → P (at badNext i)) → Each P (soundCheck cl count ws)
+  each-sound cl count ws p q u v r e =
+      let (f, found, number, place) = sound-refusal cl count ws r e in
+      numbered P r _ number (rule-numbers (λ n. (i : ℕ) → P (at n i)) p q u v (f .rule))
 
   -- the check of an entry's parent refuses by 9, 10, 11 or 12 at 0
   each-parent : (cl : Clues) (found : Option Element) (name : ℕ) → P (at noRecord 0) → P (at notInClue 0) → P (at tooDeep 0) → P (at noNumber 0) →
@@ -88,7 +92,7 @@ module _ (P : Refusal → Type 0) where
   each-stays l p = each-check P _ rootStays 0 p
 
   -- the check that a record was found refuses by 9 at 0
-  each-found : (o : Option Element) → P (at noRecord 0) → Each P (foundCheck o)
+  each-found : {A : Type 0} (o : Option A) → P (at noRecord 0) → Each P (foundCheck o)
   unfolding foundCheck
   each-found none p = each-refuse P noRecord 0 p
   each-found (some x) p = each-none P
@@ -205,9 +209,10 @@ unfolding entryRefusal entryNumbers placedNumbers stands
 entry-by rows ws count lw name =
     let P = RefusedBy entryNumbers in
     let zero = by-zero entryNumbers in
+    let told = by-place entryNumbers in
     each-first P _ _ (each-table P rows (zero badTable tt))
     (each-first P _ _ (each-size P (length ws) count (zero storeSize tt))
-    (each-first P _ _ (each-sound P (cluesOf rows) count ws (by-place entryNumbers unsound tt tt))
+    (each-first P _ _ (each-sound P (cluesOf rows) count ws (told badLayout tt tt) (told badOrder tt tt) (told badName tt tt) (told badNext tt tt))
     (each-first P _ _ (each-label P lw (zero notLabel tt))
     (each-first P _ _ (each-parent P (cluesOf rows) _ name (zero noRecord tt) (zero notInClue tt) (zero tooDeep tt) (zero noNumber tt))
     (each-last P _ (each-space P (length ws) count (zero noSpace tt)))))))
@@ -218,11 +223,29 @@ unfolding deletionRefusal deletionNumbers placedNumbers stands
 deletion-by rows ws count lw =
     let P = RefusedBy deletionNumbers in
     let zero = by-zero deletionNumbers in
+    let told = by-place deletionNumbers in
     each-first P _ _ (each-table P rows (zero badTable tt))
     (each-first P _ _ (each-size P (length ws) count (zero storeSize tt))
-    (each-first P _ _ (each-sound P (cluesOf rows) count ws (by-place deletionNumbers unsound tt tt))
+    (each-first P _ _ (each-sound P (cluesOf rows) count ws (told badLayout tt tt) (told badOrder tt tt) (told badName tt tt) (told badNext tt tt))
     (each-first P _ _ (each-label P lw (zero notLabel tt))
     (each-first P _ _ (each-stays P (labelOf lw) (zero rootStays tt)) (each-last P _ (each-found P _ (zero noRecord tt)))))))
+
+-- the book refuses a call by the call's own numbers, but for 22, 19 and 23 to 25
+pub run-by : (cl : Clues) (b : Book) (len : ℕ) (c : Call) → Each (RefusedBy (runNumbers c)) (bookRefusal cl b len c)
+unfolding bookRefusal runNumbers placedNumbers stands
+run-by cl b len (entry new) =
+    let P = RefusedBy (runNumbers (entry new)) in
+    let zero = by-zero (runNumbers (entry new)) in
+    each-first P _ _ (each-size P len (length b) (zero storeSize tt))
+    (each-first P _ _ (each-label P (new .parent) (zero notLabel tt))
+    (each-first P _ _ (each-parent P cl _ (new .name) (zero noRecord tt) (zero notInClue tt) (zero tooDeep tt) (zero noNumber tt))
+    (each-last P _ (each-space P len (length b) (zero noSpace tt)))))
+run-by cl b len (deletion lw) =
+    let P = RefusedBy (runNumbers (deletion lw)) in
+    let zero = by-zero (runNumbers (deletion lw)) in
+    each-first P _ _ (each-size P len (length b) (zero storeSize tt))
+    (each-first P _ _ (each-label P lw (zero notLabel tt))
+    (each-first P _ _ (each-stays P (labelOf lw) (zero rootStays tt)) (each-last P _ (each-found P _ (zero noRecord tt)))))
 
 -- cutting refuses by its own numbers, by 7 at 0
 pub cut-by : (rows : Table) (ws : List ℕ) (count want : ℕ) (out : List ℕ) →
@@ -231,9 +254,12 @@ unfolding cutRefusal cutNumbers placedNumbers stands
 cut-by rows ws count want out =
     let P : Refusal → Type 0 = λ r. RefusedBy cutNumbers r × (r .number ≡ nameAsked → r .place ≡ 0) in
     let zero = by-zero cutNumbers in
+    let told : (n : ℕ) → T (stands n cutNumbers && not (eqb n emptyClue)) → T (stands n placedNumbers) → (n ≡ nameAsked → ⊥) → (i : ℕ) → P (at n i) =
+    λ n t u other i. (by-place cutNumbers n t u i, λ e. absurd (other e)) in
     each-first P _ _ (each-table P rows (zero badTable tt, λ e. refl))
     (each-first P _ _ (each-size P (length ws) count (zero storeSize tt, λ e. refl))
-    (each-first P _ _ (each-sound P (cluesOf rows) count ws (λ i. (by-place cutNumbers unsound tt tt i, λ e. absurd (omega arith))))
+    (each-first P _ _ (each-sound P (cluesOf rows) count ws (told badLayout tt tt (λ e. omega arith)) (told badOrder tt tt (λ e. omega arith))
+    (told badName tt tt (λ e. omega arith)) (told badNext tt tt (λ e. omega arith)))
     (each-first P _ _ (each-name P want 0 (zero nameAsked tt, λ e. refl)) (each-last P _ (each-room P _ out (zero shortOutput tt, λ e. refl))))))
 
 -- matching refuses by its own numbers
@@ -258,6 +284,6 @@ print-by names store twig =
     let told = by-place printNumbers in
     each-first P _ _ (each-file P (told nameTooHigh tt tt) (told pairAgain tt tt) names (zero fileLength tt))
     (each-first P _ _ (each-check P _ storeSize 0 (zero storeSize tt))
-    (each-first P _ _ (each-sound P _ _ _ (told unsound tt tt))
+    (each-first P _ _ (each-sound P _ _ _ (told badLayout tt tt) (told badOrder tt tt) (told badName tt tt) (told badNext tt tt))
     (each-first P _ _ (each-twig P (told twigParent tt tt) (told twigEdge tt tt) (told nameAsked tt tt) (told twigEnd tt tt) twig (zero twigLength tt))
     (each-first P _ _ (each-check P _ shortOutput 0 (zero shortOutput tt)) (each-last P _ (each-check P _ shortOutput 0 (zero shortOutput tt)))))))

@@ -14,7 +14,7 @@ use Rattle.labelling.specs.Numbers.{Least}
 use Rattle.labelling.specs.Labels.{Label, within, same, labelOf, labelWords, namesIn, decode, path, decodeCall}
 use Rattle.patterns.specs.Twigs.{Twig, readTwig, twigCheck, nameCheck, wanted, leafNames}
 use Rattle.embeddings.specs.Matches.{Match, earlier, labelsWords, matchWords, less}
-use Rattle.storage.specs.Store.{sizeCheck}
+use Rattle.storage.specs.Store.{sizeCheck, soundCheck}
 use Rattle.store_calls.specs.Updates.{given, newStore}
 use Rattle.basics.specs.Outputs.{Listing}
 use Rattle.cut_calls.specs.Cutting.{stream, cut, Cuts, fullList, cutWords}
@@ -22,6 +22,7 @@ use Rattle.match_calls.specs.Matching.{matchCall}
 use Rattle.book.specs.Book.{Line, Book, NewElement, Call, entry, deletion, lineElement, lineAt, sooner, inOrder, bookElements, bookWords, bookRefusal, bookAfter, childLine, answer, Run, rootLine}
 use Rattle.book.specs.RefusedCalls.{RefusalHolds}
 use Rattle.model.specs.Trees.{Embedding}
+use Rattle.model.specs.RefusedBy.{RefusedBy, runNumbers}
 
 -- What holds after a list of calls.
 pub record Held (rows : Table) (root : ℕ) (w : List ℕ) (n : ℕ) (b : Book) (g : List Label) : Type 0 where
@@ -31,6 +32,8 @@ pub record Held (rows : Table) (root : ℕ) (w : List ℕ) (n : ℕ) (b : Book) 
   pub laid : w ≡ bookWords b
   pub ordered : Ascending sooner (inOrder b)
   pub sameLines : (x : Line) → x ∈ inOrder b ↔ x ∈ b
+  -- the records in use are sound, in whatever slice they stand: none breaks a rule, which 19, 23, 24 and 25 are for
+  pub sound : (slice : List ℕ) → take (recordSize * n) slice ≡ w → soundCheck (cluesOf rows) n slice ≡ none
   -- no label was given out twice
   pub once : (i j : ℕ) → i < j → j < length g → getD g i [] ≡ getD g j [] → ⊥
   -- the labels of the lines were given out
@@ -131,6 +134,8 @@ Accepted rows root n b after slice (deletion lw) = DeletionHolds rows root n b a
 pub record Next (rows : Table) (root n : ℕ) (b : Book) (slice : List ℕ) (c : Call) : Type 0 where
   -- the call is refused exactly where the book refuses it, by the same number and place
   pub refusedAlike : answer rows slice n c .refusal ≡ bookRefusal (cluesOf rows) b (length slice) c
+  -- a refusal is by none of 22, 19, 23, 24 and 25: the table is an accepted one, and the records are sound
+  pub refusedBy : (r : Refusal) → answer rows slice n c .refusal ≡ some r → RefusedBy (runNumbers c) r
   pub refused : (r : Refusal) → answer rows slice n c .refusal ≡ some r → RefusalHolds rows n b (bookAfter (cluesOf rows) b (length slice) c) slice c
   pub accepted : answer rows slice n c .refusal ≡ none → Accepted rows root n b (bookAfter (cluesOf rows) b (length slice) c) slice c
 

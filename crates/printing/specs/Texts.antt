@@ -40,6 +40,6 @@ unfoldable pub bufferChecks : Table → List ℕ → ℕ → List ℕ → List (
 bufferChecks rows ws count twig =
     bufferCheck (labelsWords (joined (streams (readTwig twig) (elements count ws)))) ∷ bufferCheck (matchWords (storeMatches rows ws count twig)) ∷ []
 
--- the checks of a store and a twig: 19, 4 to 8, 17
+-- the checks of a store and a twig: 19, 23 to 25, 4 to 8, 17
 unfoldable pub storeChecks : Table → List ℕ → ℕ → List ℕ → List (Option Refusal)
 storeChecks rows ws count twig = soundCheck (cluesOf rows) count ws ∷ twigCheck twig ∷ bufferChecks rows ws count twig

@@ -169,7 +169,7 @@ fn print_twig(table: Table, store: &[u16], count: usize, twig: &[u8], text: &mut
     )
 }
 
-// The matches of a twig in a store's words, or the refusal: 19, 4 to 8, 17.
+// The matches of a twig in a store's words, or the refusal: 19, 23 to 25, 4 to 8, 17.
 fn print_store(table: Table, store: &[u16], count: usize, twig: &[u8], text: &mut [u8]) -> usize
     requires { ⌜ (tableCheck table ≡ none) × (sizeCheck (length (now store)) count ≡ none) × (180064 ≤ length (now text)) ⌝ }
     ensures { λ n. ⌜ Prints (printedBy (storeChecks table (now (store .entry)) count (now (twig .entry))) (storeMatches table (now (store .entry)) count (now (twig .entry)))) n (now (text .exit)) (now (text .entry)) ⌝ }
@@ -186,7 +186,7 @@ fn print_store(table: Table, store: &[u16], count: usize, twig: &[u8], text: &mu
 }
 
 // What is printed: the matches of a twig in a store under a child-name file, or one line for the refusal: 1 to 3, 18,
-// 19, 4 to 8, 17.
+// 19, 23 to 25, 4 to 8, 17.
 pub fn print_matches(names: &[u8], store: &[u8], twig: &[u8], text: &mut [u8]) -> usize
     requires { ⌜ 180064 ≤ length (now text) ⌝ }
     ensures { λ n. ⌜ (n ≡ length (spec.printed (now (names .entry)) (now (store .entry)) (now (twig .entry)))) × (now (text .exit) ≡ over (spec.printed (now (names .entry)) (now (store .entry)) (now (twig .entry))) (now (text .entry))) ⌝ }

@@ -25,7 +25,7 @@ pub record StoreLength (len : ℕ) : Type 0 where
 abbrev pub fileClues : List ℕ → Clues
 fileClues names = cluesOf (readNames names .table)
 
--- the check of the records of a store's file, which refuses by 19
+-- the check of the records of a store's file, which refuses by 19 and 23 to 25
 abbrev pub fileSound : List ℕ → List ℕ → Option Refusal
 fileSound names store = soundCheck (fileClues names) (fileCount store) (fileWords store)
 
@@ -52,7 +52,7 @@ pub data Unprintable (names store twig : List ℕ) (r : Refusal) : Type 0 where
   badNames : fileCheck names ≡ some r → Unprintable names store twig r
   -- refused by 18 for the length of the store's file
   badLength : fileCheck names ≡ none → (StoreLength (length store) → ⊥) → refuse storeSize 0 ≡ some r → Unprintable names store twig r
-  -- refused by 19 for a record of the store's file
+  -- refused by 19 or 23 to 25 for a record of the store's file
   badRecord : fileCheck names ≡ none → StoreLength (length store) → fileSound names store ≡ some r → Unprintable names store twig r
   -- refused by 4 to 8 for the twig
   badTwig :

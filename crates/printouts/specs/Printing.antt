@@ -85,7 +85,7 @@ fileMatches cl store twig =
 unfoldable pub bufferCheck : List ℕ → Option Refusal
 bufferCheck ws = check (leb (2 * length ws) maxBytes) shortOutput 0
 
--- the program's checks, in this order: 1 to 3, 18, 19, 4 to 8, 17 for the streams, 17 for the matches
+-- the program's checks, in this order: 1 to 3, 18, 19, 23 to 25, 4 to 8, 17 for the streams, 17 for the matches
 unfoldable pub printRefusal : List ℕ → List ℕ → List ℕ → Option Refusal
 printRefusal names store twig =
     let cl = cluesOf (readNames names .table) in

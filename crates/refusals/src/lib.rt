@@ -59,14 +59,24 @@ impl Refusal {
     pub const SHORT_OUTPUT: u8 = 17;
     // Store length not a multiple of 20, or 0, or a count of 0, over the slice or over 4,096.
     pub const STORE_SIZE: u8 = 18;
-    // An unsound record.
-    pub const UNSOUND: u8 = 19;
+    // A record is not laid out as one.
+    // On the phone: a torn file, take the copy before.
+    pub const BAD_LAYOUT: u8 = 19;
     // Streams: the counts, the buffer's length, or a label that 15, 16, name or order rules out.
     pub const BAD_STREAM: u8 = 20;
     // The name of the root is above 63.
     pub const BAD_ROOT: u8 = 21;
     // A table with an entry 64 to 254, a number after a 255, or a name that stands twice in a row.
     pub const BAD_TABLE: u8 = 22;
+    // A record is out of label order, or its parent does not stand earlier.
+    // On the phone: a torn file, take the copy before.
+    pub const BAD_ORDER: u8 = 23;
+    // A record's name is not the one that its label decodes to, or record 0's is above 63.
+    // On the phone: a wrong name table, look for the other names.tab; at record 0 a torn file, take the copy before.
+    pub const BAD_NAME: u8 = 24;
+    // A record's last component is not below its parent's next number, or its own is not 0 where nothing may stand below.
+    // On the phone: a short name table or a torn file, look for the other names.tab, then take the copy before.
+    pub const BAD_NEXT: u8 = 25;
 }
 
 // A check refused by a number at a place.

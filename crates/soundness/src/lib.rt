@@ -23,7 +23,7 @@ ghost use Rattle.storage.specs.Store as spec;
 ghost use Rattle.clue_lengths.specs.Lengths.{lengthsOf};
 ghost use Rattle.refusals.specs.Answers.{verdictOf};
 ghost use Rattle.record_rules.specs.Rules.{sharedBefore, depthFits};
-ghost use Rattle.soundness.specs.Answers.{Numbered, soundnessOf};
+ghost use Rattle.soundness.specs.Answers.{paperRule, soundnessOf};
 
 // What the rules say of a store: sound, or the first rule broken and the record's place.
 pub enum Soundness {
@@ -31,17 +31,17 @@ pub enum Soundness {
     Broken(Rule, usize),
 }
 
-// The number by which the paper refuses a record that breaks a rule.
+// The number by which a record that breaks a rule is refused.
 fn number_of(rule: Rule) -> u8
-    ensures { λ r. ⌜ Numbered rule r ⌝ }
+    ensures { λ r. ⌜ r ≡ spec.numberOf (paperRule rule) ⌝ }
 {
     match rule {
-        Rule::Layout => Refusal::UNSOUND,
-        Rule::Order => Refusal::UNSOUND,
-        Rule::Parent => Refusal::UNSOUND,
-        Rule::Name => Refusal::UNSOUND,
-        Rule::Last => Refusal::UNSOUND,
-        Rule::Next => Refusal::UNSOUND,
+        Rule::Layout => Refusal::BAD_LAYOUT,
+        Rule::Order => Refusal::BAD_ORDER,
+        Rule::Parent => Refusal::BAD_ORDER,
+        Rule::Name => Refusal::BAD_NAME,
+        Rule::Last => Refusal::BAD_NEXT,
+        Rule::Next => Refusal::BAD_NEXT,
     }
 }
 
@@ -112,7 +112,7 @@ fn first_fault(table: &Table, lengths: &[usize], store: &[u16], count: usize) ->
     found
 }
 
-// The check of the records in use: 19.
+// The check of the records in use: record by record 19, 23, 24, 25.
 pub fn check_records(table: &Table, store: &[u16], count: usize) -> Verdict
     requires { ⌜ count * 20 ≤ length (now store) ⌝ }
     ensures { λ v. ⌜ v ≡ verdictOf (spec.soundCheck (cluesOf (now (table .entry))) count (now (store .entry))) ⌝ }

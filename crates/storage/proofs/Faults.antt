@@ -1,6 +1,6 @@
 -- The first record that breaks a rule, and the refusal that names it.
 use mathlib.Core.Path.{_≡_, refl, sym, ap, _∙_}
-use mathlib.Core.Logic.{_↔_, Iff·trans}
+use mathlib.Core.Logic.{_↔_, Iff·trans, _⊎_, inl, inr, ⊎-elim}
 use mathlib.Core.List.{List, [], _∷_, map, reverseAux}
 use mathlib.Core.Option.{Option, none, some, Option·none-ne-some, Option·some-ne-none, Option·some-injective}
 use Prim.Native.Nat.{ℕ, zero, suc, _+_, _<_}
@@ -8,7 +8,7 @@ use native.Mathlib.Nat.{le-of-suc-le-suc}
 use native.Mathlib.Omega.{arith}
 use lib.ListN.{length, getD, take}
 use Rattle.basics.specs.Basics.{elim?}
-use Rattle.basics.specs.Refusals.{Refusal, refuse, unsound}
+use Rattle.basics.specs.Refusals.{Refusal, refuse, badLayout, badOrder, badName, badNext}
 use Rattle.naming.specs.Names.{Clues}
 use Rattle.storage.specs.Store.{Element, Rule, readElement, records, broken, Fault, fault, numberOf, soundCheck, layoutRule, orderRule, parentRule, nameRule, lastRule, nextRule}
 use Rattle.storage.proofs.Sizes.{length-records}
@@ -150,24 +150,84 @@ sound-refused cl count ws n i = (
   λ h. rw (fault-iff cl (records count ws) i (h .0) .1 (h .1), h .2),
 )
 
--- every rule has the number 19
-pub rule-number : (x : Rule) → numberOf x ≡ unsound
+-- what holds of 19, 23, 24 and 25 holds of the number of every rule
+pub rule-numbers : (P : ℕ → Type 0) → P badLayout → P badOrder → P badName → P badNext → (r : Rule) → P (numberOf r)
 unfolding numberOf
-rule-number layoutRule = refl
-rule-number orderRule = refl
-rule-number parentRule = refl
-rule-number nameRule = refl
-rule-number lastRule = refl
-rule-number nextRule = refl
+rule-numbers P layout order name next layoutRule = layout
+rule-numbers P layout order name next orderRule = order
+rule-numbers P layout order name next parentRule = order
+rule-numbers P layout order name next nameRule = name
+rule-numbers P layout order name next lastRule = next
+rule-numbers P layout order name next nextRule = next
 
--- the refusal 19 is given at a place exactly if the record there is the first that breaks a rule
-pub nineteen-iff : (cl : Clues) (count : ℕ) (ws : List ℕ) (i : ℕ) →
-    soundCheck cl count ws ≡ refuse unsound i ↔ ((r : Rule) × FirstFault cl [] (records count ws) i r)
-nineteen-iff cl count ws i = (
-  λ e. let (r, h, n) = sound-refused cl count ws unsound i .0 e in (r, h),
-  λ h. sound-refused cl count ws unsound i .1 (h .0, h .1, rule-number (h .0)),
-)
+-- which rules a number tells of
+module _ (F : Rule → Type 0) where
+  -- 19 tells of the layout
+  by-nineteen : (r : Rule) → F r → numberOf r ≡ badLayout → F layoutRule
+  unfolding numberOf
+  by-nineteen layoutRule h n = h
+  by-nineteen orderRule h n = absurd (omega arith)
+  by-nineteen parentRule h n = absurd (omega arith)
+  by-nineteen nameRule h n = absurd (omega arith)
+  by-nineteen lastRule h n = absurd (omega arith)
+  by-nineteen nextRule h n = absurd (omega arith)
 
--- the check of the records refuses by no other number than 19
-pub unsound-number : (cl : Clues) (count : ℕ) (ws : List ℕ) (r : Refusal) → soundCheck cl count ws ≡ some r → r .number ≡ unsound
-unsound-number cl count ws r e = let (f, at, number, place) = sound-refusal cl count ws r e in number ∙ rule-number (f .rule)
+  -- 23 tells of order or parent
+  by-twenty-three : (r : Rule) → F r → numberOf r ≡ badOrder → F orderRule ⊎ F parentRule
+  unfolding numberOf
+  by-twenty-three layoutRule h n = absurd (omega arith)
+  by-twenty-three orderRule h n = inl h
+  by-twenty-three parentRule h n = inr h
+  by-twenty-three nameRule h n = absurd (omega arith)
+  by-twenty-three lastRule h n = absurd (omega arith)
+  by-twenty-three nextRule h n = absurd (omega arith)
+
+  -- 24 tells of the name
+  by-twenty-four : (r : Rule) → F r → numberOf r ≡ badName → F nameRule
+  unfolding numberOf
+  by-twenty-four layoutRule h n = absurd (omega arith)
+  by-twenty-four orderRule h n = absurd (omega arith)
+  by-twenty-four parentRule h n = absurd (omega arith)
+  by-twenty-four nameRule h n = h
+  by-twenty-four lastRule h n = absurd (omega arith)
+  by-twenty-four nextRule h n = absurd (omega arith)
+
+  -- 25 tells of the last component or the next number
+  by-twenty-five : (r : Rule) → F r → numberOf r ≡ badNext → F lastRule ⊎ F nextRule
+  unfolding numberOf
+  by-twenty-five layoutRule h n = absurd (omega arith)
+  by-twenty-five orderRule h n = absurd (omega arith)
+  by-twenty-five parentRule h n = absurd (omega arith)
+  by-twenty-five nameRule h n = absurd (omega arith)
+  by-twenty-five lastRule h n = inl h
+  by-twenty-five nextRule h n = inr h
+
+-- when each number is given at record i
+module _ (cl : Clues) (count : ℕ) (ws : List ℕ) (i : ℕ) where
+  -- record i is the first that breaks a rule, and r is the first rule that it breaks
+  abbrev First : Rule → Type 0
+  First = FirstFault cl [] (records count ws) i
+
+  -- 19 is given exactly if every earlier record keeps every rule and record i breaks the rule of the layout
+  pub nineteen-iff : soundCheck cl count ws ≡ refuse badLayout i ↔ First layoutRule
+  unfolding numberOf
+  nineteen-iff = Iff·trans (sound-refused cl count ws badLayout i) (λ f. by-nineteen First (f .0) (f .1) (f .2), λ h. (layoutRule, h, refl))
+
+  -- 23 is given exactly if every earlier record keeps every rule and record i, which is laid out,
+  -- breaks the rule of order or, in order, that of the parent
+  pub twenty-three-iff : soundCheck cl count ws ≡ refuse badOrder i ↔ (First orderRule ⊎ First parentRule)
+  unfolding numberOf
+  twenty-three-iff = Iff·trans (sound-refused cl count ws badOrder i)
+      (λ f. by-twenty-three First (f .0) (f .1) (f .2), ⊎-elim (λ h. (orderRule, h, refl)) (λ h. (parentRule, h, refl)))
+
+  -- 24 is given exactly if every earlier record keeps every rule and record i breaks that of the name, but none before it
+  pub twenty-four-iff : soundCheck cl count ws ≡ refuse badName i ↔ First nameRule
+  unfolding numberOf
+  twenty-four-iff = Iff·trans (sound-refused cl count ws badName i) (λ f. by-twenty-four First (f .0) (f .1) (f .2), λ h. (nameRule, h, refl))
+
+  -- 25 is given exactly if every earlier record keeps every rule and record i breaks that of the last component
+  -- or that of the next number, but none before it
+  pub twenty-five-iff : soundCheck cl count ws ≡ refuse badNext i ↔ (First lastRule ⊎ First nextRule)
+  unfolding numberOf
+  twenty-five-iff = Iff·trans (sound-refused cl count ws badNext i)
+      (λ f. by-twenty-five First (f .0) (f .1) (f .2), ⊎-elim (λ h. (lastRule, h, refl)) (λ h. (nextRule, h, refl)))

@@ -5,6 +5,7 @@ pub mod Finding
 pub mod Rules
 pub mod Sizes
 pub mod Faults
+pub mod Torn
 pub mod SoundStore
 -- Examples that the checker works through.
 pub mod Computing

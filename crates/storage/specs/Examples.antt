@@ -32,14 +32,50 @@ usedUp = elementWords (element [] 0 65535)
 unfoldable pub torn : List ℕ
 torn = replicate recordSize 9
 
--- examples of the root's name, of a record that is not sound, and of the element with a label
+-- a store under the loop table in which an element's parent is missing
+unfoldable pub orphaned : List ℕ
+orphaned = storeWords (element [] 0 1 ∷ element (0 ∷ 0 ∷ []) 0 0 ∷ [])
+
+-- a store of a root whose name is above 63
+unfoldable pub misnamed : List ℕ
+misnamed = elementWords (element [] 64 0)
+
+-- a store of a root whose clue is empty under the loop table, though it has a next number
+unfoldable pub misnumbered : List ℕ
+misnumbered = elementWords (element [] 1 1)
+
+-- examples of the root's name and of the element with a label
 unfoldable pub recordChecks : List Check
 recordChecks =
     -- the root's name is record 0's
     is (rootOf (elementWords (elementOf [] 3 0 8 9) ++ elementWords (elementOf [] 4 0 8 9)) ∷ []) (3 ∷ [])
-    -- record 0 isn't sound where an unused component isn't 0
-    ∷ is (shown (soundCheck (cluesOf shortTable) 1 (0 ∷ 1 ∷ replicate 18 0))) (19 ∷ 0 ∷ [])
     -- a label finds its element
     ∷ is (elementWords (elementAt (1 ∷ []) (elementOf [] 0 3 10 11 ∷ elementOf (1 ∷ []) 1 2 12 13 ∷ [])))
     (elementWords (elementOf (1 ∷ []) 1 2 12 13))
+    ∷ []
+
+-- what the check of records says of words in which as many records are in use, under the bench's names
+unfoldable pub soundness : ℕ → List ℕ → List ℕ
+soundness count ws = shown (soundCheck (cluesOf shortTable) count ws)
+
+-- examples of records that are not sound, by 19, 23, 24 and 25
+unfoldable pub ruleChecks : List Check
+ruleChecks =
+    -- layout: an unused component isn't 0, record 0 has depth 1, or a later record depth 0
+    is (soundness 1 (0 ∷ 1 ∷ replicate 18 0)) (19 ∷ 0 ∷ [])
+    ∷ is (soundness 1 (elementWords (element (0 ∷ []) 0 0))) (19 ∷ 0 ∷ [])
+    ∷ is (soundness 2 (storeWords (element [] 0 1 ∷ element [] 0 1 ∷ []))) (19 ∷ 1 ∷ [])
+    -- order: a label twice; parent: none stands
+    ∷ is (soundness 3 (storeWords (element [] 0 1 ∷ element (0 ∷ []) 1 0 ∷ element (0 ∷ []) 1 0 ∷ []))) (23 ∷ 2 ∷ [])
+    ∷ is (soundness 2 (storeWords (element [] 0 1 ∷ element (0 ∷ 0 ∷ []) 2 0 ∷ []))) (23 ∷ 1 ∷ [])
+    -- name: record 0's above 63, a test for a vehicle, or anything below a note
+    ∷ is (soundness 1 (elementWords (element [] 64 0))) (24 ∷ 0 ∷ [])
+    ∷ is (soundness 2 (storeWords (element [] 0 1 ∷ element (0 ∷ []) 2 0 ∷ []))) (24 ∷ 1 ∷ [])
+    ∷ is (soundness 2 (storeWords (element [] 5 0 ∷ element (0 ∷ []) 1 0 ∷ []))) (24 ∷ 1 ∷ [])
+    -- last component: the parent's next number is 0; next number: a note has one
+    ∷ is (soundness 2 (storeWords (element [] 0 0 ∷ element (0 ∷ []) 1 0 ∷ []))) (25 ∷ 1 ∷ [])
+    ∷ is (soundness 1 (elementWords (element [] 5 1))) (25 ∷ 0 ∷ [])
+    -- of two rules broken by one record the first decides, and of two records the first
+    ∷ is (soundness 2 (storeWords (element [] 0 0 ∷ element (0 ∷ []) 2 0 ∷ []))) (24 ∷ 1 ∷ [])
+    ∷ is (soundness 3 (storeWords (element [] 0 0 ∷ element (0 ∷ []) 1 0 ∷ []) ++ torn)) (25 ∷ 1 ∷ [])
     ∷ []

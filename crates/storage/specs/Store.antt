@@ -7,7 +7,7 @@ use lib.ListN.{length, getD, take, drop}
 use lib.Dec.{ltb, leb, eqb}
 use Rattle.basics.specs.Basics.{elim?, last, joined}
 use Rattle.basics.specs.Limits.{maxDepth, maxRecords, labelSize, recordSize, nameWord, nextWord, payloadWord}
-use Rattle.basics.specs.Refusals.{Refusal, refuse, check, storeSize, unsound}
+use Rattle.basics.specs.Refusals.{Refusal, refuse, check, storeSize, badLayout, badOrder, badName, badNext}
 use Rattle.naming.specs.Names.{Clues, led, isName}
 use Rattle.labelling.specs.Labels.{Label, before, same, above, labelOf, labelWords, isLabel}
 
@@ -116,15 +116,15 @@ unfoldable pub fault : Clues → List Element → List (List ℕ) → Option Fau
 fault cl done [] = none
 fault cl done (r ∷ rs) = elim? (broken cl done r) (fault cl (readElement r ∷ done) rs) (λ b. some (record { place = length done; rule = b }))
 
--- the number that the paper gives each rule
+-- the number of each rule: 19 the layout, 23 order and parent, 24 the name, 25 both rules on the next number
 unfoldable pub numberOf : Rule → ℕ
-numberOf layoutRule = unsound
-numberOf orderRule = unsound
-numberOf parentRule = unsound
-numberOf nameRule = unsound
-numberOf lastRule = unsound
-numberOf nextRule = unsound
+numberOf layoutRule = badLayout
+numberOf orderRule = badOrder
+numberOf parentRule = badOrder
+numberOf nameRule = badName
+numberOf lastRule = badNext
+numberOf nextRule = badNext
 
--- the check of the records in use, which refuses by 19 at the first record that breaks a rule
+-- the check of the records in use, which refuses at the first record that breaks a rule, by the first rule's number
 unfoldable pub soundCheck : Clues → ℕ → List ℕ → Option Refusal
 soundCheck cl count ws = elim? (fault cl [] (records count ws)) none (λ f. refuse (numberOf (f .rule)) (f .place))

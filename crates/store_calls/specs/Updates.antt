@@ -51,7 +51,7 @@ parentCheck cl (some p) name =
 unfoldable pub spaceCheck : ℕ → ℕ → Option Refusal
 spaceCheck len count = check (leb (recordSize * (count + 1)) len && ltb count maxRecords) noSpace 0
 
--- an entry is refused by 22, 18, 19, 15, 9, 10, 11, 12, 13, in this order
+-- an entry is refused by 22, 18, 19, 23 to 25, 15, 9, 10, 11, 12, 13, in this order
 unfoldable pub entryRefusal : Table → List ℕ → ℕ → List ℕ → ℕ → Option Refusal
 entryRefusal rows ws count lw name =
     first
@@ -113,7 +113,7 @@ unfoldable pub foundCheck : {A : Type 0} → Option A → Option Refusal
 foundCheck none = refuse noRecord 0
 foundCheck (some a) = none
 
--- a deletion is refused by 22, 18, 19, 15, 14, 9, in this order
+-- a deletion is refused by 22, 18, 19, 23 to 25, 15, 14, 9, in this order
 unfoldable pub deletionRefusal : Table → List ℕ → ℕ → List ℕ → Option Refusal
 deletionRefusal rows ws count lw =
     first

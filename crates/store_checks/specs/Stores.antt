@@ -7,6 +7,6 @@ use Rattle.basics.specs.Refusals.{Refusal, first}
 use Rattle.naming.specs.Names.{Table, cluesOf, tableCheck}
 use Rattle.storage.specs.Store.{sizeCheck, soundCheck}
 
--- the checks of table, sizes and records, in this order: 22, 18, 19
+-- the checks of table, sizes and records, in this order: 22, 18, 19, 23 to 25
 unfoldable pub storeCheck : Table → List ℕ → ℕ → Option Refusal
 storeCheck rows ws count = first (tableCheck rows ∷ sizeCheck (length ws) count ∷ soundCheck (cluesOf rows) count ws ∷ [])

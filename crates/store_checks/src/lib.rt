@@ -8,7 +8,7 @@ ghost use mathlib.Core.Path.{_≡_};
 ghost use Rattle.refusals.specs.Answers.{verdictOf};
 ghost use Rattle.store_checks.specs.Stores.{storeCheck};
 
-// The checks of a lent table and store: 22, 18, 19.
+// The checks of a lent table and store: 22, 18, 19, 23 to 25.
 pub fn store_verdict(table: &Table, store: &[u16], count: usize) -> Verdict
     ensures { λ v. ⌜ v ≡ verdictOf (storeCheck (now (table .entry)) (now (store .entry)) count) ⌝ }
 {
@@ -25,7 +25,7 @@ pub fn store_verdict(table: &Table, store: &[u16], count: usize) -> Verdict
     check_records(table, store, count)
 }
 
-// The check of a store: 22, 18, 19.
+// The check of a store: 22, 18, 19, 23 to 25.
 pub fn check_store(table: Table, store: &[u16], count: usize) -> Verdict
     ensures { λ v. ⌜ v ≡ verdictOf (storeCheck table (now (store .entry)) count) ⌝ }
 {

@@ -233,7 +233,7 @@ pub fn new_store(store: &mut [u16], root: u8, payload: [u16; 2], answer: &mut [u
     }
 }
 
-/// Checks a store and the records in use: 22, 18, 19.
+/// Checks a store and the records in use: 22, 18, 19, 23 to 25.
 pub fn check_store(table: &[u8], store: &[u16], count: usize, answer: &mut [usize]) -> u8 {
     // SAFETY: pointers and lengths are those of slices.
     unsafe {
@@ -250,7 +250,7 @@ pub fn check_store(table: &[u8], store: &[u16], count: usize, answer: &mut [usiz
 }
 
 /// Enters an element and gives its label, sixteen words, zeros in a refusal; the value is the count
-/// after the call: 22, 18, 19, 15, 9, 10, 11, 12, 13.
+/// after the call: 22, 18, 19, 23 to 25, 15, 9, 10, 11, 12, 13.
 pub fn enter(
     table: &[u8],
     store: &mut [u16],
@@ -282,7 +282,8 @@ pub fn enter(
     }
 }
 
-/// Deletes an element and all below it; the value is the count after the call: 22, 18, 19, 15, 14, 9.
+/// Deletes an element and all below it; the value is the count after the call: 22, 18, 19, 23 to
+/// 25, 15, 14, 9.
 pub fn delete(
     table: &[u8],
     store: &mut [u16],
@@ -307,7 +308,7 @@ pub fn delete(
 }
 
 /// Writes the stream of one name, or of all for 255; the value is how many labels it has: 22, 18,
-/// 19, 7, 17.
+/// 19, 23 to 25, 7, 17.
 pub fn cut(
     table: &[u8],
     store: &[u16],

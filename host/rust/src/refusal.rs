@@ -18,7 +18,7 @@ use std::fmt;
 /// ```
 #[derive(Clone, Copy, Debug, PartialEq, Eq, Hash)]
 pub struct Refusal {
-    /// 1 to 22; each number has a constant of its own.
+    /// 1 to 25; each number has a constant of its own.
     pub number: u8,
     /// The pair, node, record or label from 0, the component from 1, or 0 where the number has no
     /// place.
@@ -67,10 +67,17 @@ refusals! {
     EMPTY_CLUE = 16, "the component stands below a name that has no children";
     SHORT_OUTPUT = 17, "the output is shorter than the whole result";
     STORE_SIZE = 18, "the store's length or count of records is not one that a store can have";
-    UNSOUND = 19, "the store's record is unsound";
+    BAD_LAYOUT = 19, "the record is not laid out as one; a torn file: take the copy before";
     BAD_STREAM = 20, "the streams' counts or length don't fit, or this label can't stand here";
     BAD_ROOT = 21, "the root name is above 63";
     BAD_TABLE = 22, "the table is not one that a good child-name file gives";
+    BAD_ORDER = 23, "the record is out of label order or without its parent; a torn file: take \
+        the copy before";
+    BAD_NAME = 24, "the record's name is not the decoded one, or record 0's is above 63; a wrong \
+        name table: look for the other names.tab, at record 0 take the copy before";
+    BAD_NEXT = 25, "the record's last component is not below its parent's next number, or its own \
+        next number is not 0 where nothing may stand below; a short name table or a torn file: \
+        look for the other names.tab, then take the copy before";
 }
 
 impl fmt::Display for Refusal {

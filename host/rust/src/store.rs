@@ -34,27 +34,37 @@ pub fn new_store(store: &mut [u16], root: u8, payload: [u16; 2]) -> Result<usize
     ask(|answer| ffi::new_store(store, root, payload, answer))
 }
 
-/// Checks the first `count` records. Refused 18, and 19 with the first unsound record as its place.
+/// Checks the first `count` records. Refused 18; then at the first record that breaks a rule by the
+/// first rule that it breaks: 19 layout, 23 order or parent, 24 name, 25 last component or next
+/// number.
+///
+/// A store that is refused 19 or 23, or 24 at record 0, is refused under every name table: its file
+/// is torn. One that is whole under some table is refused under another by 24 or 25 alone.
 ///
 /// ```
-/// use jiszteruk::{check_store, new_store, Refusal, Table, RECORD_WORDS};
+/// use jiszteruk::{check_store, enter, new_store, Label, Refusal, Table, RECORD_WORDS};
 ///
 /// let table = Table::bench();
 /// let mut words = [0; 2 * RECORD_WORDS];
 /// let count = new_store(&mut words, 0, [0, 0])?;
 /// check_store(&table, &words, count)?;
 ///
-/// // The second record is all zeros, and depth 0 is for record 0 only.
+/// // The second record is all zeros, and depth 0 is for record 0 only: a torn file.
 /// let refusal = check_store(&table, &words, 2).unwrap_err();
-/// assert_eq!(refusal, Refusal { number: Refusal::UNSOUND, place: 1 });
+/// assert_eq!(refusal, Refusal { number: Refusal::BAD_LAYOUT, place: 1 });
+///
+/// // Of a store with a vehicle, under a table in which no name has children: a wrong name table.
+/// let count = enter(&table, &mut words, count, &Label::ROOT, 1, [0, 0])?.count;
+/// let refusal = check_store(&Table::read(&[])?, &words, count).unwrap_err();
+/// assert_eq!(refusal, Refusal { number: Refusal::BAD_NEXT, place: 0 });
 /// # Ok::<(), Refusal>(())
 /// ```
 pub fn check_store(table: &Table, store: &[u16], count: usize) -> Result<(), Refusal> {
     ask(|answer| ffi::check_store(table.as_bytes(), store, count, answer)).map(|_| ())
 }
 
-/// Enters an element below a parent; later records move up. Refused 18, 19, 15, 9, 10, 11, 12, 13;
-/// then the slice is as it was.
+/// Enters an element below a parent; later records move up. Refused 18, 19, 23 to 25, 15, 9, 10,
+/// 11, 12, 13; then the slice is as it was.
 ///
 /// ```
 /// use jiszteruk::{enter, new_store, Label, Refusal, Table, RECORD_WORDS};
@@ -93,7 +103,7 @@ pub fn enter(
 }
 
 /// Deletes an element with all below it and answers the new count; the freed records are zeros.
-/// Refused 18, 19, 15, 14, 9; then the slice is as it was.
+/// Refused 18, 19, 23 to 25, 15, 14, 9; then the slice is as it was.
 ///
 /// ```
 /// use jiszteruk::{delete, enter, new_store, Label, Refusal, Table, RECORD_WORDS};
@@ -120,7 +130,7 @@ pub fn delete(
 }
 
 /// Writes the labels of all elements with a name, or of all elements for 255, in label order, and
-/// answers how many they are. Refused 18, 19, 7, 17; then the output is untouched.
+/// answers how many they are. Refused 18, 19, 23 to 25, 7, 17; then the output is untouched.
 ///
 /// ```
 /// use jiszteruk::{cut, Label, Refusal, Store, Table};
@@ -178,7 +188,7 @@ impl Store {
         Ok(Store { words, count })
     }
 
-    /// Takes words of which `count` records are in use. Refused 18, 19.
+    /// Takes words of which `count` records are in use. Refused 18, 19, 23 to 25.
     ///
     /// ```
     /// use jiszteruk::{Label, Refusal, Store, Table};
@@ -224,7 +234,8 @@ impl Store {
         Ok(())
     }
 
-    /// The stream of a name, or of all for 255: sixteen words for each label. Refused 19, 7.
+    /// The stream of a name, or of all for 255: sixteen words for each label. Refused 19, 23 to
+    /// 25, 7.
     pub fn cut(&self, table: &Table, name: u8) -> Result<Vec<u16>, Refusal> {
         let mut out = vec![0; self.count * Label::WORDS];
         let labels = cut(table, &self.words, self.count, name, &mut out)?;

@@ -7,7 +7,7 @@ use jiszteruk::Refusal;
 
 const HEADER: &str = "../../include/jiszteruk.h";
 const SOURCE: &str = "../../crates/refusals/src/lib.rt";
-const REFUSALS: usize = 22;
+const REFUSALS: usize = 25;
 
 type Numbers = Vec<(String, u8)>;
 
@@ -48,7 +48,7 @@ fn rust_numbers() -> Numbers {
 }
 
 #[test]
-fn the_rust_type_has_1_to_22() {
+fn the_rust_type_has_1_to_25() {
     let numbers: Vec<usize> = rust_numbers()
         .iter()
         .map(|(_, n)| usize::from(*n))

@@ -7,7 +7,7 @@ mod paper;
 mod runs;
 mod samples;
 
-use beside::Beside;
+use beside::{Beside, Call};
 use paper::labels::{lay_out, Label, LABEL_WORDS};
 use paper::names::{read_file, rows, Clues, ANY, BENCH_FILE, MAX_FILE, NAMES, TABLE_BYTES};
 use paper::number;
@@ -39,6 +39,7 @@ fn the_library_does_what_the_paper_says() {
     longest_files(&mut beside);
     full_slices(&mut beside, &mut rng);
     longest_streams(&mut beside);
+    other_tables(&mut beside, &mut rng);
     beside.tally.print();
     for number in 1..=number::HIGHEST {
         assert_ne!(
@@ -46,6 +47,12 @@ fn the_library_does_what_the_paper_says() {
             0,
             "no call was refused {number}"
         );
+    }
+    for call in [Call::CheckStore, Call::Enter, Call::Delete, Call::Cut] {
+        for number in number::OF_RECORDS {
+            let answered = beside.tally.answered_by(call, number);
+            assert_ne!(answered, 0, "{call:?} was not refused {number}");
+        }
     }
     assert!(beside.tally.calls() >= LEAST_CALLS);
 }
@@ -256,6 +263,41 @@ fn longest_streams(beside: &mut Beside) {
     let Streams { counts, buffer } = Streams::of(&vec![most.to_vec(); LEAVES]);
     let (reply, _) = beside.match_twig(&table, 0, &twig, &counts, &buffer, enough);
     assert_eq!((reply.number, reply.value), (number::SHORT_OUTPUT, 0));
+}
+
+/// A store that is whole under its table is refused under another by 24 or 25 alone. One that is
+/// refused 19 or 23, or 24 at record 0, is refused under every table.
+fn other_tables(beside: &mut Beside, rng: &mut Rng) {
+    const STORES: usize = 300;
+    const ENTRIES: usize = 12;
+    const TABLES: usize = 6;
+    let clues = |rng: &mut Rng| read_file(&samples::file(rng)).expect("the file is a good one");
+    let (mut whole, mut torn) = (0, 0);
+    for _ in 0..STORES {
+        let own = clues(rng);
+        let mut run = Run::start(beside, rng, own, 0);
+        for _ in 0..ENTRIES {
+            run.random_entry(beside, rng, 0);
+        }
+        let (damaged, count) = samples::lent_store(rng, &run.clues, &run.words);
+        let fault = beside.check_store(&run.table, &damaged, count);
+        let is_torn = match fault.number {
+            number::BAD_LAYOUT | number::BAD_ORDER => true,
+            number::BAD_NAME => fault.place == 0,
+            _ => false,
+        };
+        for _ in 0..TABLES {
+            let other = rows(&clues(rng));
+            let reply = beside.check_store(&other, &run.words, run.count());
+            assert!([0, number::BAD_NAME, number::BAD_NEXT].contains(&reply.number));
+            whole += usize::from(!reply.is_taken());
+            if is_torn {
+                torn += 1;
+                assert!(!beside.check_store(&other, &damaged, count).is_taken());
+            }
+        }
+    }
+    assert!(whole > STORES && torn > STORES);
 }
 
 /// The paper's version lists what the plain definition gives: pruning loses no match.

@@ -1,4 +1,4 @@
--- `cutting::cut` meets its contract: 22, 18, 19, 7 and 17 in turn, else the stream is written.
+-- `cutting::cut` meets its contract: 22, 18, 19, 23 to 25, 7 and 17 in turn, else the stream is written.
 use borrow.Author.Needs.{needs}
 use Rattle.cutting.proofs.Sound.{store-held, store-laid}
 use Rattle.cutting.proofs.Answers.{room-held, refused-first, name-refused, room-refused, cut-done}

@@ -1,4 +1,4 @@
--- `deletions::delete` meets its contract: 22, 18, 19, 15, 14 and 9 in turn, else the subtree taken out.
+-- `deletions::delete` meets its contract: 22, 18, 19, 23 to 25, 15, 14 and 9 in turn, else the subtree taken out.
 use borrow.Author.Needs.{needs}
 use Rattle.changes.proofs.Checks.{found-at, call-searchable, call-label}
 use Rattle.deletions.proofs.DeletionAnswers.{delete-unchecked, delete-root, delete-absent, delete-done}

@@ -1,4 +1,4 @@
--- `entries::enter` meets its contract: 22, 18, 19, 15 and 9 in turn, else what the parent answers.
+-- `entries::enter` meets its contract: 22, 18, 19, 23 to 25, 15 and 9 in turn, else what the parent answers.
 use borrow.Author.Needs.{needs}
 use Rattle.changes.proofs.Checks.{found-label, call-searchable, call-label}
 use Rattle.entries.proofs.EntryAnswers.{enter-unchecked, enter-absent, enter-done}

@@ -1,6 +1,6 @@
--- `soundness::number_of` meets its contract: every rule has the paper's number.
+-- `soundness::number_of` meets its contract: each rule has its number.
 use borrow.Author.Needs.{needs}
-use Rattle.soundness.proofs.Checks.{numbered}
+use Rattle.soundness.proofs.Checks.{layout-number, order-number, parent-number, name-number, last-number, next-number}
 use Rattle.soundness.proofs.number_of.Statement.{statement}
 use Rattle.soundness.proofs.number_of.Tie as tie
 
@@ -14,9 +14,9 @@ number-of-spec =
     (λ c. search needs)
     (λ c. search needs)
     (λ c. search needs)
-    (λ c. search (numbered, needs))
-    (λ c. search (numbered, needs))
-    (λ c. search (numbered, needs))
-    (λ c. search (numbered, needs))
-    (λ c. search (numbered, needs))
-    (λ c. search (numbered, needs)))
+    (λ c. search (layout-number, needs))
+    (λ c. search (order-number, needs))
+    (λ c. search (parent-number, needs))
+    (λ c. search (name-number, needs))
+    (λ c. search (last-number, needs))
+    (λ c. search (next-number, needs)))

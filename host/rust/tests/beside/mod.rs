@@ -120,6 +120,11 @@ impl Tally {
         self.counts.iter().map(|of_call| of_call[number]).sum()
     }
 
+    /// How often a number was answered by one call.
+    pub fn answered_by(&self, call: Call, number: u8) -> u64 {
+        self.counts[call as usize][usize::from(number)]
+    }
+
     pub fn print(&self) {
         for call in CALLS {
             let counts = self.counts[call as usize].iter().enumerate();

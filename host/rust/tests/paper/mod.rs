@@ -26,7 +26,7 @@ pub fn refuse<T>(number: u8) -> Answer<T> {
     refuse_at(number, 0)
 }
 
-/// The numbers of "Who can cause which refusal".
+/// The numbers of "Who can cause which refusal", and those that request #101 adds.
 pub mod number {
     pub const FILE_LENGTH: u8 = 1;
     pub const NAME_TOO_HIGH: u8 = 2;
@@ -46,11 +46,17 @@ pub mod number {
     pub const EMPTY_CLUE: u8 = 16;
     pub const SHORT_OUTPUT: u8 = 17;
     pub const STORE_SIZE: u8 = 18;
-    pub const UNSOUND: u8 = 19;
+    pub const BAD_LAYOUT: u8 = 19;
     pub const BAD_STREAM: u8 = 20;
     pub const BAD_ROOT: u8 = 21;
     pub const BAD_TABLE: u8 = 22;
+    pub const BAD_ORDER: u8 = 23;
+    pub const BAD_NAME: u8 = 24;
+    pub const BAD_NEXT: u8 = 25;
+
+    /// The numbers of a record that breaks a rule, in the order of the rules.
+    pub const OF_RECORDS: [u8; 4] = [BAD_LAYOUT, BAD_ORDER, BAD_NAME, BAD_NEXT];
 
     /// The highest number of a refusal.
-    pub const HIGHEST: usize = 22;
+    pub const HIGHEST: usize = 25;
 }

@@ -54,59 +54,68 @@ pub fn check_size(len: usize, count: usize) -> Answer<()> {
     Ok(())
 }
 
-/// The records in use: 18, then 19 at the first that breaks a rule.
+/// The records in use: 18, then at the first that breaks a rule the number of the first rule that
+/// it breaks.
 fn read_store(clues: &Clues, words: &[u16], count: usize) -> Answer<Vec<Record>> {
     check_size(words.len(), count)?;
     let mut records = Vec::new();
     for (place, words) in words.chunks(RECORD_WORDS).take(count).enumerate() {
         match sound_record(clues, &records, words) {
-            Some(record) => records.push(record),
-            None => return refuse_at(number::UNSOUND, place),
+            Ok(record) => records.push(record),
+            Err(number) => return refuse_at(number, place),
         }
     }
     Ok(records)
 }
 
-/// The record with these words, if it is sound behind the earlier ones.
-fn sound_record(clues: &Clues, earlier: &[Record], words: &[u16]) -> Option<Record> {
-    let label = components(&words[..LABEL_WORDS])?;
-    let name = u8::try_from(words[NAME_AT]).ok()?;
-    let next = words[NEXT_AT];
-    let in_its_place = match earlier {
-        [] => label.is_empty() && is_name(name),
-        _ => stands_well(clues, earlier, &label, name),
-    };
-    let payload = [words[PAYLOAD_AT], words[PAYLOAD_AT + 1]];
-    if !in_its_place || (next != 0 && !may_have_children(clues, &label, name)) {
-        return None;
+/// The record with these words behind the earlier ones, or the number of the first rule that it
+/// breaks: 19, 23, 24, 25.
+fn sound_record(clues: &Clues, earlier: &[Record], words: &[u16]) -> Result<Record, u8> {
+    let label = components(&words[..LABEL_WORDS]).ok_or(number::BAD_LAYOUT)?;
+    if label.is_empty() != earlier.is_empty() {
+        return Err(number::BAD_LAYOUT);
     }
-    Some(Record {
+    let parent = parent_of(earlier, &label)?;
+    let name = u8::try_from(words[NAME_AT]).map_err(|_| number::BAD_NAME)?;
+    let fits = match earlier.first() {
+        None => is_name(name),
+        Some(root) => name_of(clues, root.name, &label) == Some(name),
+    };
+    if !fits {
+        return Err(number::BAD_NAME);
+    }
+    let next = words[NEXT_AT];
+    let given = parent.is_none_or(|parent| label[label.len() - 1] < parent.next);
+    if !given || (next != 0 && !may_have_children(clues, &label, name)) {
+        return Err(number::BAD_NEXT);
+    }
+    Ok(Record {
         label,
         name,
         next,
-        payload,
+        payload: [words[PAYLOAD_AT], words[PAYLOAD_AT + 1]],
     })
 }
 
-/// Order, parent, name and last component of a record that is not the first.
-fn stands_well(clues: &Clues, earlier: &[Record], label: &Label, name: u8) -> bool {
-    let (root, previous) = (&earlier[0], &earlier[earlier.len() - 1]);
-    let Some((last, parent)) = label.split_last() else {
-        return false;
+/// The parent of a record that is in order behind the earlier ones, none for the first: 23.
+fn parent_of<'a>(earlier: &'a [Record], label: &Label) -> Result<Option<&'a Record>, u8> {
+    let (Some(previous), Some((_, above))) = (earlier.last(), label.split_last()) else {
+        return Ok(None);
     };
-    let Ok(at) = earlier.binary_search_by(|record| record.label[..].cmp(parent)) else {
-        return false;
-    };
-    *label > previous.label
-        && name_of(clues, root.name, label) == Some(name)
-        && *last < earlier[at].next
+    if *label <= previous.label {
+        return Err(number::BAD_ORDER);
+    }
+    match earlier.binary_search_by(|record| record.label[..].cmp(above)) {
+        Ok(at) => Ok(Some(&earlier[at])),
+        Err(_) => Err(number::BAD_ORDER),
+    }
 }
 
 fn may_have_children(clues: &Clues, label: &Label, name: u8) -> bool {
     !clues[usize::from(name)].is_empty() && label.len() < MAX_DEPTH
 }
 
-/// The check of a store: 22, 18, 19.
+/// The check of a store: 22, 18, 19, 23 to 25.
 pub fn check(table: &[u8], words: &[u16], count: usize) -> Answer<Vec<Record>> {
     read_store(&read_table(table)?, words, count)
 }
@@ -125,7 +134,8 @@ pub fn new_store(words: &mut [u16], root: u8, payload: [u16; 2]) -> Answer<usize
     Ok(1)
 }
 
-/// An entry: 22, 18, 19, 15, 9, 10, 11, 12, 13. The answer is the new count and the new label.
+/// An entry: 22, 18, 19, 23 to 25, 15, 9, 10, 11, 12, 13. The answer is the new count and the new
+/// label.
 pub fn enter(
     table: &[u8],
     words: &mut [u16],
@@ -168,7 +178,7 @@ pub fn enter(
     Ok((records.len(), label))
 }
 
-/// A deletion: 22, 18, 19, 15, 14, 9. The answer is the new count.
+/// A deletion: 22, 18, 19, 23 to 25, 15, 14, 9. The answer is the new count.
 pub fn delete(table: &[u8], words: &mut [u16], count: usize, label: &[u16]) -> Answer<usize> {
     let mut records = check(table, words, count)?;
     let label = read_label(label)?;
@@ -185,7 +195,7 @@ pub fn delete(table: &[u8], words: &mut [u16], count: usize, label: &[u16]) -> A
     Ok(records.len())
 }
 
-/// Cutting: 22, 18, 19, 7, 17. The answer is how many labels the stream has.
+/// Cutting: 22, 18, 19, 23 to 25, 7, 17. The answer is how many labels the stream has.
 pub fn cut(table: &[u8], words: &[u16], count: usize, name: u8, out: &mut [u16]) -> Answer<usize> {
     let records = check(table, words, count)?;
     let name = asked(name, 0)?;
