@@ -74,7 +74,7 @@ impl Refusal {
     // A record's name is not the one that its label decodes to, or record 0's is above 63.
     // On the phone: a wrong name table, look for the other names.tab; at record 0 a torn file, take the copy before.
     pub const BAD_NAME: u8 = 24;
-    // A record's last component is not below its parent's next number, or its own is not 0 where nothing may stand below.
+    // A record's last component is not below its parent's next number, or its own is not 0 where none may stand below.
     // On the phone: a short name table or a torn file, look for the other names.tab, then take the copy before.
     pub const BAD_NEXT: u8 = 25;
 }

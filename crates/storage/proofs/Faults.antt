@@ -220,7 +220,8 @@ module _ (cl : Clues) (count : ℕ) (ws : List ℕ) (i : ℕ) where
   twenty-three-iff = Iff·trans (sound-refused cl count ws badOrder i)
       (λ f. by-twenty-three First (f .0) (f .1) (f .2), ⊎-elim (λ h. (orderRule, h, refl)) (λ h. (parentRule, h, refl)))
 
-  -- 24 is given exactly if every earlier record keeps every rule and record i breaks that of the name, but none before it
+  -- 24 is given exactly if every earlier record keeps every rule and record i breaks that of the name,
+  -- but none before it
   pub twenty-four-iff : soundCheck cl count ws ≡ refuse badName i ↔ First nameRule
   unfolding numberOf
   twenty-four-iff = Iff·trans (sound-refused cl count ws badName i) (λ f. by-twenty-four First (f .0) (f .1) (f .2), λ h. (nameRule, h, refl))
