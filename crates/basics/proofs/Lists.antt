@@ -14,8 +14,8 @@ use lib.Dec.{T, eqb}
 use Rattle.basics.specs.Basics.{◌∈◌, all, keep, joined, Ascending, none_left, one_more_lem, stands, last}
 use Rattle.basics.proofs.Tests.{and_iff, is_true, or_iff, eqb_alike}
 use Rattle.basics.proofs.Orders.{OneWay}
-pub use mathlib.Core.List.Memᴰ.{append_cases as either-part}
-pub use mathlib.Core.List.Memᴰ.{cases_cons as here-or-there}
+pub use mathlib.Core.List.Memᴰ.{append_cases as either_part}
+pub use mathlib.Core.List.Memᴰ.{cases_cons as here_or_there}
 pub use mathlib.Core.List.Memᴰ.{eq_of_singleton as only_one}
 pub use mathlib.Core.List.Memᴰ.{head as here}
 pub use mathlib.Core.List.Memᴰ.{not-nil as nowhere}
@@ -23,7 +23,7 @@ pub use mathlib.Core.List.Memᴰ.{tail as there}
 
 -- what holds of the first and of the rest holds of every member
 pub for_cons : {A : Type 0} (P : A → Type 0) {z : A} {s : List A} → P z → ((y : A) → y ∈ s → P y) → (y : A) → y ∈ z ∷ s → P y
-for_cons P p q y m = ⊎_elim (λ e. subst P (sym e) p) (q y) (here-or-there m)
+for_cons P p q y m = ⊎_elim (λ e. subst P (sym e) p) (q y) (here_or_there m)
 
 -- lists made of the members of two lists are those of the first, then those of the second
 pub joined_append : {A B : Type 0} (f : A → List B) (l m : List A) → joined (map f (l ++ m)) ≡ joined (map f l) ++ joined (map f m)
@@ -35,8 +35,8 @@ joined_append f (a ∷ l) m = ap (λ x. f a ++ x) (joined_append f l m) ∙ sym 
 pub reverse_mem : {A : Type 0} (l m : List A) (a : A) → a ∈ reverse_aux l m ↔ (a ∈ l ⊎ a ∈ m)
 reverse_mem [] m a = (inr, ⊎_elim (λ h. absurd (nowhere h)) (λ h. h))
 reverse_mem (x ∷ l) m a = Iff.trans (reverse_mem l (x ∷ m) a) (
-  ⊎_elim (λ h. inl (there h)) (λ h. ⊎_elim (λ e. inl (here e)) inr (here-or-there h)),
-  ⊎_elim (λ h. ⊎_elim (λ e. inr (here e)) inl (here-or-there h)) (λ h. inr (there h)),
+  ⊎_elim (λ h. inl (there h)) (λ h. ⊎_elim (λ e. inl (here e)) inr (here_or_there h)),
+  ⊎_elim (λ h. ⊎_elim (λ e. inr (here e)) inl (here_or_there h)) (λ h. inr (there h)),
 )
 
 -- what holds of every image holds of every member of the mapped list
@@ -76,7 +76,7 @@ module _ {A : Type 0} (f : A → Bool) where
   keep_cons x l a = go (f x)
     where
       go : (b : Bool) → a ∈ cond b (x ∷ keep f l) (keep f l) ↔ (((a ≡ x) × T b) ⊎ a ∈ keep f l)
-      go true = (λ h. ⊎_map (λ e. (e, tt)) (λ k. k) (here-or-there h), ⊎_elim (λ p. here p.0) there)
+      go true = (λ h. ⊎_map (λ e. (e, tt)) (λ k. k) (here_or_there h), ⊎_elim (λ p. here p.0) there)
       go false = (inr, ⊎_elim (λ p. absurd p.1) (λ k. k))
 
   -- the members that a test keeps are those of the list that pass it
@@ -85,14 +85,14 @@ module _ {A : Type 0} (f : A → Bool) where
   keep_iff [] a = (λ h. absurd (nowhere h), λ h. absurd (nowhere h.0))
   keep_iff (x ∷ l) a = (
     λ h. ⊎_elim (λ p. (here p.0, rw p.0 p.1)) (λ k. let p = (keep_iff l a).0 k in (there p.0, p.1)) ((keep_cons x l a).0 h),
-    λ h. (keep_cons x l a).1 (⊎_map (λ e. (e, rw e at h.1)) (λ k. (keep_iff l a).1 (k, h.1)) (here-or-there h.0)),
+    λ h. (keep_cons x l a).1 (⊎_map (λ e. (e, rw e at h.1)) (λ k. (keep_iff l a).1 (k, h.1)) (here_or_there h.0)),
   )
 
 -- the members of a list are what stands at its places
 pub member_at : {A : Type 0} (d : A) (l : List A) (a : A) → a ∈ l ↔ ((i : ℕ) × (i < length l) × (get_or l i d ≡ a))
 member_at d [] a = (λ h. absurd (nowhere h), λ h. absurd (not-suc-le-zero h.1))
 member_at d (x ∷ l) a = (
-  λ h. ⊎_elim (λ e. (0, omega arith, sym e)) (λ k. let (i, p, e) = (member_at d l a).0 k in (suc i, omega arith, e)) (here-or-there h),
+  λ h. ⊎_elim (λ e. (0, omega arith, sym e)) (λ k. let (i, p, e) = (member_at d l a).0 k in (suc i, omega arith, e)) (here_or_there h),
   λ h. go (λ i p e. (member_at d l a).1 (i, p, e)) h.0 h.1 h.2,
 )
   where
@@ -132,7 +132,7 @@ module _ {A : Type 0} {less : A → A → Bool} where
   pub append_ascending : {l m : List A} → Ascending less l → Ascending less m → ((a b : A) → a ∈ l → b ∈ m → T (less a b)) → Ascending less (l ++ m)
   append_ascending none_left s h = s
   append_ascending (one_more_lem {a} {more} k r) s h =
-      one_more_lem (λ b p. ⊎_elim (k b) (h a b (here refl)) (either-part more p)) (append_ascending r s (λ x b p. h x b (there p)))
+      one_more_lem (λ b p. ⊎_elim (k b) (h a b (here refl)) (either_part more p)) (append_ascending r s (λ x b p. h x b (there p)))
 
   -- a map that keeps the order maps an ascending list to an ascending one
   pub map_ascending : {B : Type 0} {less' : B → B → Bool} (f : A → B) → ((a b : A) → T (less a b) → T (less' (f a) (f b))) →
@@ -144,7 +144,7 @@ module _ {A : Type 0} {less : A → A → Bool} where
   module _ (o : OneWay less) where
     -- the first members of two ascending lists with the same members are equal
     heads : {a b : A} {l m : List A} → ((x : A) → x ∈ l → T (less a x)) → ((x : A) → x ∈ m → T (less b x)) → a ∈ b ∷ m → b ∈ a ∷ l → a ≡ b
-    heads {a} {b} {l} {m} h k p q = go (here-or-there p) (here-or-there q)
+    heads {a} {b} {l} {m} h k p q = go (here_or_there p) (here_or_there q)
       where
         go : (a ≡ b) ⊎ a ∈ m → (b ≡ a) ⊎ b ∈ l → a ≡ b
         go (inl e) s = e
@@ -154,7 +154,7 @@ module _ {A : Type 0} {less : A → A → Bool} where
     -- behind equal first members, two ascending lists with the same members go on with the same members
     tails : {a b : A} {l m : List A} → a ≡ b → ((x : A) → x ∈ l → T (less a x)) → ((x : A) → x ∈ a ∷ l → x ∈ b ∷ m) → (x : A) → x ∈ l → x ∈ m
     tails {a} e h f x p = ⊎_elim (λ d. let l = subst (λ y. T (less a y)) (d ∙ sym e) (h x p) in absurd (o.asym a a l l)) (λ k. k)
-        (here-or-there (f x (there p)))
+        (here_or_there (f x (there p)))
 
     -- two ascending lists with the same members are equal
     pub ascending_unique : {l m : List A} → Ascending less l → Ascending less m → ((a : A) → a ∈ l ↔ a ∈ m) → l ≡ m
@@ -206,7 +206,7 @@ unfolding stands
 stands_iff n [] = (absurd, nowhere)
 stands_iff n (x ∷ xs) = (
   λ h. ⊎_elim (λ e. here (sym ((eqb_alike x n).0 e))) (λ k. there ((stands_iff n xs).0 k)) ((or_iff (eqb x n) _).0 h),
-  λ h. (or_iff (eqb x n) _).1 (⊎_map (λ e. (eqb_alike x n).1 (sym e)) (stands_iff n xs).1 (here-or-there h)),
+  λ h. (or_iff (eqb x n) _).1 (⊎_map (λ e. (eqb_alike x n).1 (sym e)) (stands_iff n xs).1 (here_or_there h)),
 )
 
 -- the last number of a list is what was added at its end

@@ -3,7 +3,7 @@ use Rattle.std.specs.Prelude.{◌≡◌, List, [], ◌∷◌, map, ℕ}
 use Rattle.std.proofs.Math.Option.{Option, none, some}
 use Rattle.basics.specs.Basics.{joined, total}
 use Rattle.basics.specs.Limits.{filler, max_name, no_parent, record_size, table_size, max_file, max_component, max_depth, any_name, max_records, label_size, node_size, max_twig, max_bytes, name_word, next_word, payload_word}
-use Rattle.basics.specs.Refusals.{Refusal, Reply, value, refused, refuse, reply, file_length, name_too_high, pair_again, twig_length, twig_parent, twig_edge, name_asked, twig_end, no_record, not_in_clue, too_deep, no_number, no_space, root_stays, not_label, empty_clue, short_output, store_size, bad_layout, bad_stream, bad_root, bad_table, bad_order, bad_name, bad_next, bad_text, ninth_name}
+use Rattle.basics.specs.Refusals.{Refusal, Reply, value, refused, refuse, reply, file_length, name_too_high, pair_again, twig_length, twig_parent, twig_edge, name_asked, twig_end, no_record, not_in_clue, too_deep, no_number, no_space, root_stays, not_label, empty_clue, short_output, store_size, bad_layout, bad_stream, bad_root, bad_table, bad_order, bad_name, bad_next}
 use Rattle.basics.specs.Outputs.{room_check}
 
 -- a refusal as its number and place
@@ -55,4 +55,4 @@ numbers =
     file_length ∷ name_too_high ∷ pair_again ∷ twig_length ∷ twig_parent ∷ twig_edge ∷ name_asked ∷ twig_end ∷
     no_record ∷ not_in_clue ∷ too_deep ∷ no_number ∷ no_space ∷
     root_stays ∷ not_label ∷ empty_clue ∷ short_output ∷ store_size ∷ bad_layout ∷ bad_stream ∷ bad_root ∷ bad_table ∷
-    bad_order ∷ bad_name ∷ bad_next ∷ bad_text ∷ ninth_name ∷ []
+    bad_order ∷ bad_name ∷ bad_next ∷ []

@@ -1,5 +1,7 @@
 // The paper's checks of names, labels, stores and matching, run and printed. The cases are the lines of the file
 // `stdin`.
+#![tactic(auto)]
+
 mod alone;
 mod cars;
 mod growth;

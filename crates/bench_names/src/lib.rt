@@ -1,4 +1,6 @@
 // The bench's own names: their pairs, and the table that the pairs give.
+#![tactic(auto)]
+
 ghost use Rattle.std.specs.Prelude.{◌≡◌};
 ghost use Rattle.naming.specs.Examples.{bench_table};
 

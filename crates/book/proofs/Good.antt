@@ -1,5 +1,5 @@
 -- What holds of a book and the labels given out, at the opening and after every accepted call.
-use mathlib.Core.Path.{◌≡◌, refl, sym, ap, ◌∙◌}
+use mathlib.Core.Path.{◌≡◌, refl, sym, ap, ◌∙◌, subst}
 use mathlib.Core.Logic.{◌⊎◌, inl, inr, ⊎_elim}
 use mathlib.Core.Bool.{Bool, true, false, cond}
 use mathlib.Core.List.Memᴰ
@@ -193,11 +193,15 @@ module _ {cl : Clues} {root : ℕ} {b : Book} {g : List Label} (good : Good cl r
       more true = omega (arith, good.rounds y m, suc-mul (given_below y.label g) (length (cl (last y.names))))
       more false = good.rounds y m
 
+      own : num + 1 ≤ given_below x.label ((x.label ++ (num ∷ [])) ∷ g) * length (cl (last x.names))
+      own =
+          rw (is_true (holds child_edge x.label (x.label ++ (num ∷ []))) ((child_iff x.label _).1 (num, refl)))
+          (omega (arith, suits.round (given_below x.label g) (good.rounds x stands)))
+
       go : (d : Bool) → Tells (y.label ≡ x.label) d → cond d (num + 1) y.next ≤ given_below y.label ((x.label ++ (num ∷ [])) ∷ g) *
           length (cl (last y.names))
       go true (passes e) =
-          rw (same_clue y m e, e, is_true (holds child_edge x.label (x.label ++ (num ∷ []))) ((child_iff x.label _).1 (num, refl)))
-          (omega (arith, suits.round (given_below x.label g) (good.rounds x stands)))
+          rw (same_clue y m e) (subst (λ l. num + 1 ≤ given_below l ((x.label ++ (num ∷ [])) ∷ g) * length (cl (last x.names))) (sym e) own)
       go false (fails n) = more (holds child_edge y.label (x.label ++ (num ∷ [])))
 
   -- a moved line's next number is one above the number given last below

@@ -1,4 +1,6 @@
 // A line of a file of cases: where its bar stands, and its numbers.
+#![tactic(auto)]
+
 ghost use Rattle.std.specs.Prelude.{◌≡◌, false, drop};
 ghost use Rattle.case_lines.specs.Lines.{bar_of, digit, place_of, with_byte, numbers_of};
 

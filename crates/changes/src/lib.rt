@@ -1,5 +1,7 @@
 // What the calls that change a store share: their answer,
 // the checks before their own, and the root's record, from which a child's is made.
+#![tactic(auto)]
+
 ghost use Rattle.std.specs.Prelude.{◌≡◌, length, get_or};
 ghost use Rattle.basics.specs.Limits.{record_size};
 ghost use Rattle.storage.specs.Store.{element_words};

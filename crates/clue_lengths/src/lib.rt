@@ -1,4 +1,6 @@
 // How many names each clue of a table has, counted once for all.
+#![tactic(auto)]
+
 ghost use Rattle.std.specs.Prelude.{◌≡◌, length, get_or};
 ghost use Rattle.clue_lengths.specs.Lengths.{lengths_of};
 

@@ -1,5 +1,7 @@
 // The clue of a name, its row in the table: how many names it has,
 // the place of a child in it, and where a component leads.
+#![tactic(auto)]
+
 ghost use Rattle.std.specs.Prelude.{◌≡◌, length};
 ghost use Rattle.naming.specs.Names as spec;
 ghost use Rattle.clues.specs.Answers.{place_answer, child_of};

@@ -1,4 +1,6 @@
 // Cutting: the stream of the labels that a name asks for, written from a sound store.
+#![tactic(auto)]
+
 ghost use Rattle.std.specs.Prelude.{◌≡◌, ◌+◌, ◌*◌, ◌≤◌, length};
 ghost use Rattle.basics.specs.Basics.{over};
 ghost use Rattle.basics.specs.Limits.{label_size, record_size};

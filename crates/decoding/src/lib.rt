@@ -1,4 +1,6 @@
 // Decoding: the names from the root that a label leads to.
+#![tactic(auto)]
+
 ghost use Rattle.std.specs.Prelude.{◌≡◌, ◌≤◌, length};
 ghost use Rattle.naming.specs.Names.{clues_of};
 ghost use Rattle.labelling.specs.Labels as spec;

@@ -1,4 +1,6 @@
 // Deletion: an element taken out of a store, and all below it.
+#![tactic(auto)]
+
 ghost use Rattle.std.specs.Prelude.{◌≡◌};
 ghost use Rattle.std.proofs.Math.Option.{some};
 ghost use Rattle.storage.specs.Store.{elements};

@@ -1,4 +1,6 @@
 // Guards on the places of slices, for the programs that test: a place that is not there reads as 0 and is left alone.
+#![tactic(auto)]
+
 ghost use Rattle.std.specs.Prelude.{◌≡◌, get_or, set};
 
 // The word at a place.

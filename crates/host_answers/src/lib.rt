@@ -1,5 +1,7 @@
 // What a host program is told of a call: the refusal's number, and through
 // small lent slices, as far as they have room, what else is answered.
+#![tactic(auto)]
+
 ghost use Rattle.std.specs.Prelude.{◌≡◌, [], ◌∷◌};
 ghost use Rattle.host_answers.specs.Reports.{fitted, report, report_by};
 

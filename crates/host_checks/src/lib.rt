@@ -1,4 +1,6 @@
 // The checks of a table, a store and a twig for a host program: the refusal's number and place, and no value.
+#![tactic(auto)]
+
 ghost use Rattle.std.specs.Prelude.{◌≡◌};
 ghost use Rattle.naming.specs.Names.{table_check};
 ghost use Rattle.patterns.specs.Twigs.{twig_check};

@@ -1,5 +1,7 @@
 // Labels for a host program: the names that a label decodes to,
 // the kinship of two labels, and whether one follows the other.
+#![tactic(auto)]
+
 ghost use Rattle.std.specs.Prelude.{◌≡◌, cond};
 ghost use Rattle.labelling.specs.Labels.{decode_call, kinship_call, follows_call};
 ghost use Rattle.table_bytes.specs.Rows.{table_in};

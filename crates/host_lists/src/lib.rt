@@ -1,5 +1,7 @@
 // Lists for a host program: the stream of a name, and the matches of a twig.
 // The value is how many labels or matches there are.
+#![tactic(auto)]
+
 ghost use Rattle.std.specs.Prelude.{◌≡◌};
 ghost use Rattle.match_calls.specs.Matching.{match_call};
 ghost use Rattle.cut_calls.specs.Cutting as cutting;

@@ -1,4 +1,6 @@
 // Stores for a host program: a new store, entry and deletion. The value is the count of records in use.
+#![tactic(auto)]
+
 ghost use Rattle.std.specs.Prelude.{◌≡◌};
 ghost use Rattle.store_calls.specs.Updates as updates;
 ghost use Rattle.table_bytes.specs.Rows.{table_in};

@@ -1,5 +1,7 @@
 // Tables for a host program: one read from a child-name file, and the bench's own.
 // A table is 4,096 bytes, row after row; a slice of another length is refused by 22 and left alone.
+#![tactic(auto)]
+
 ghost use Rattle.std.specs.Prelude.{◌≡◌};
 ghost use Rattle.host_answers.specs.Reports.{report};
 ghost use Rattle.host_tables.specs.Calls.{read_report, table_read, bench_number, bench_bytes};

@@ -1,4 +1,6 @@
 // Two labels against each other: the kinship of the first to the second, and whether the first follows the second.
+#![tactic(auto)]
+
 ghost use Rattle.std.specs.Prelude.{◌≡◌, ◌&&◌, ◌≤◌, length};
 ghost use Rattle.labelling.specs.Labels as spec;
 ghost use Rattle.kinship.specs.Answers.{kinship_of, follows_of};

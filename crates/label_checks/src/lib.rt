@@ -1,4 +1,6 @@
 // The check of a label, for the calls that refuse words that are no label.
+#![tactic(auto)]
+
 ghost use Rattle.std.specs.Prelude.{◌≡◌};
 ghost use Rattle.labelling.specs.Labels as spec;
 ghost use Rattle.refusals.specs.Answers.{verdict_of};

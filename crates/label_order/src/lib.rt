@@ -1,4 +1,6 @@
 // Label order: the part that two labels share, and which of them comes first.
+#![tactic(auto)]
+
 ghost use Rattle.std.specs.Prelude.{◌≡◌, ◌+◌, ◌≤◌, length, drop};
 ghost use Rattle.labelling.specs.Labels as spec;
 

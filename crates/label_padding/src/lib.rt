@@ -1,5 +1,7 @@
 // The unused components of labels, tested with no way out
 // between the words, so that the compiler takes several at once.
+#![tactic(auto)]
+
 ghost use Rattle.std.specs.Prelude.{◌≡◌, ◌+◌, ◌<◌, ◌≤◌, length, eqb};
 ghost use Rattle.basics.specs.Limits.{max_depth, label_size};
 ghost use Rattle.label_words.specs.Words.{words_fit};

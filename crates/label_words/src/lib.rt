@@ -1,5 +1,7 @@
 // Labels as they lie in sixteen words, tested and compared with no way
 // out between the words, so that the compiler takes several at once.
+#![tactic(auto)]
+
 ghost use Rattle.std.specs.Prelude.{◌≡◌, ◌+◌, ◌<◌, ◌≤◌, min, length, get_or, take, drop, T, eqb};
 ghost use Rattle.basics.specs.Basics.{all};
 ghost use Rattle.basics.specs.Limits.{max_depth, label_size};

@@ -1,4 +1,6 @@
 // Labels: sixteen words, the depth first, then the components, unused ones 0.
+#![tactic(auto)]
+
 ghost use Rattle.std.specs.Prelude.{◌≡◌, true, ◌≤◌, ◌<◌, [], length, take, drop};
 ghost use Rattle.basics.specs.Basics.{all};
 ghost use Rattle.labelling.specs.Labels as spec;

@@ -1,4 +1,6 @@
 // Looking up a label among the records of a store.
+#![tactic(auto)]
+
 ghost use Rattle.std.specs.Prelude.{◌≡◌, true, ◌+◌, ◌*◌, ◌≤◌, length, get_or};
 ghost use Rattle.basics.specs.Basics.{leading};
 ghost use Rattle.storage.specs.Store.{read_element, elements};

@@ -1,4 +1,6 @@
 // The checks of matching before it reads a stream: table, root name, twig and counts in turn.
+#![tactic(auto)]
+
 ghost use Rattle.std.specs.Prelude.{◌≡◌};
 ghost use Rattle.refusals.specs.Answers.{verdict_of};
 ghost use Rattle.match_input_checks.specs.Inputs.{input_check};

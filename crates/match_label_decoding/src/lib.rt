@@ -1,4 +1,6 @@
 // One label of a stream, read behind the label before it: of its names only those that changed are decoded.
+#![tactic(auto)]
+
 ghost use Rattle.std.specs.Prelude.{◌≡◌, true, ◌||◌, ◌+◌, ◌*◌, ◌≤◌, length, get_or, take, eqb};
 ghost use Rattle.basics.specs.Limits.{label_size, max_depth};
 ghost use Rattle.naming.specs.Names.{clues_of};

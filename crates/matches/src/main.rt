@@ -1,4 +1,6 @@
 // Prints the matches of the twig in twig.rec, in the store in store.rec, under the child names in names.tab.
+#![tactic(auto)]
+
 mod files;
 
 use files::{Reading, read_file};

@@ -33,7 +33,7 @@ decode_prefixes cl p (x ∷ l) f h =
     let c : ℕ = f (x ∷ []) in
     let leads : led (cl p) x ≡ some c = sym (name_child cl p [] x p (name_root cl p)) ∙ h (x ∷ []) ((within_iff (x ∷ []) (x ∷ l)).1 (l, refl)) in
     let below = decode_prefixes cl c l (λ q. f (x ∷ q)) (λ q w. sym (name_cons cl p x c q leads) ∙ h (x ∷ q) (one_deeper x q l w)) in
-    rw (leads, below, first_name cl p f (h [] ((within_iff [] (x ∷ l)).1 (x ∷ l, refl))), map-map)
+    rw (leads, below, first_name cl p f (h [] ((within_iff [] (x ∷ l)).1 (x ∷ l, refl))), map-map f (◌∷◌ x) (prefixes l))
 
 -- some element has the label
 abbrev pub Has : List Element → Label → Type 0

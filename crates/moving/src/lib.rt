@@ -1,4 +1,6 @@
 // Records of twenty words moved within a lent slice; record r stands at word 20 * r.
+#![tactic(auto)]
+
 ghost use Rattle.std.specs.Prelude.{◌≡◌, ◌+◌, ◌*◌, ◌<◌, ◌≤◌, length, take, drop};
 ghost use Rattle.basics.specs.Limits.{record_size};
 ghost use Rattle.moving.specs.Moves.{put, shifted_up, shifted_down, cleared, inserted, removed};

@@ -1,4 +1,6 @@
 // Child-name files, checked and read into tables.
+#![tactic(auto)]
+
 ghost use Rattle.std.specs.Prelude.{◌≡◌};
 ghost use Rattle.naming.specs.Names.{file_check, empty_table, read_names};
 ghost use Rattle.refusals.specs.Answers.{verdict_of};

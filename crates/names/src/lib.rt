@@ -1,4 +1,6 @@
 // Names, and the table of what may stand below them: its rows, and how many names each has.
+#![tactic(auto)]
+
 ghost use Rattle.std.specs.Prelude.{◌≡◌, length};
 ghost use Rattle.naming.specs.Names as spec;
 

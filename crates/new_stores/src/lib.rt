@@ -1,4 +1,6 @@
 // A new store: record 0 written into a lent slice of words.
+#![tactic(auto)]
+
 ghost use Rattle.std.specs.Prelude.{◌≡◌, get_or};
 ghost use Rattle.store_calls.specs.Updates as spec;
 ghost use Rattle.changes.specs.Answers.{changed, change_of};

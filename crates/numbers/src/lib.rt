@@ -1,4 +1,6 @@
 // The number that a new child's label ends with.
+#![tactic(auto)]
+
 ghost use Rattle.std.specs.Prelude.{◌≡◌};
 ghost use Rattle.numbers.specs.Answers.{number_answer, number_for};
 

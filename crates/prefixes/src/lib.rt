@@ -1,4 +1,6 @@
 // Prefixes of slices, for the programs that test: the first elements, all where there are fewer.
+#![tactic(auto)]
+
 ghost use Rattle.std.specs.Prelude.{◌≡◌, length, take};
 ghost use Rattle.basics.specs.Basics.{over};
 

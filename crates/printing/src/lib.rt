@@ -1,4 +1,6 @@
 // What the program that prints matches prints, for the bytes of its three files.
+#![tactic(auto)]
+
 ghost use Rattle.std.specs.Prelude.{◌≡◌, ◌≤◌, ◌*◌, length};
 ghost use Rattle.std.proofs.Math.Option.{none};
 ghost use Rattle.basics.specs.Basics.{over};

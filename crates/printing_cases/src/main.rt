@@ -1,4 +1,6 @@
 // What the program that prints matches prints, over many small folders. The cases are the lines of the file `stdin`.
+#![tactic(auto)]
+
 mod files;
 mod lines;
 mod show;

@@ -1,4 +1,6 @@
 // The rules that a record of a sound store keeps behind its layout: the first one that it breaks.
+#![tactic(auto)]
+
 ghost use Rattle.std.specs.Prelude.{◌≡◌, ◌+◌, ◌*◌, ◌≤◌, length, get_or};
 ghost use Rattle.naming.specs.Names.{clues_of};
 ghost use Rattle.labelling.specs.Labels.{label_of, shared};

@@ -1,4 +1,6 @@
 // Records of twenty words in a lent slice: how large a store may be, and where the parts of a record stand.
+#![tactic(auto)]
+
 ghost use Rattle.std.specs.Prelude.{◌≡◌, ◌+◌, ◌*◌, ◌≤◌, length, get_or};
 ghost use Rattle.labelling.specs.Labels.{label_of};
 ghost use Rattle.storage.specs.Store as spec;

@@ -1,5 +1,7 @@
 // The library's matcher beside a slow one that is written from the paper's definition alone: the two are run over
 // made-up stores and twigs, and every word that they answer is compared.
+#![tactic(auto)]
+
 mod choices;
 mod comparing;
 mod label_words;

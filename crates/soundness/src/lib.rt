@@ -1,4 +1,6 @@
 // Soundness: the first record of a store that breaks a rule, found in one pass.
+#![tactic(auto)]
+
 ghost use Rattle.std.specs.Prelude.{◌≡◌, [], ◌+◌, ◌-◌, ◌*◌, ◌≤◌, length, get_or};
 ghost use Rattle.naming.specs.Names.{clues_of};
 ghost use Rattle.storage.specs.Store as spec;

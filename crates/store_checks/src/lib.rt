@@ -1,4 +1,6 @@
 // The check of a store: its table, its sizes, then its records.
+#![tactic(auto)]
+
 ghost use Rattle.std.specs.Prelude.{◌≡◌};
 ghost use Rattle.refusals.specs.Answers.{verdict_of};
 ghost use Rattle.store_checks.specs.Stores.{store_check};

@@ -1,4 +1,6 @@
 // Suffixes of slices, for the programs that test: the elements from a place on, none where it is not there.
+#![tactic(auto)]
+
 ghost use Rattle.std.specs.Prelude.{◌≡◌, drop};
 
 // The words of a slice from a place on; none where it is not there.

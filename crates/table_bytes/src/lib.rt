@@ -1,4 +1,6 @@
 // Tables as bytes, row after row: bytes taken as a table, and a table written to bytes.
+#![tactic(auto)]
+
 ghost use Rattle.std.specs.Prelude.{◌≡◌, ◌+◌, ◌*◌, ◌≤◌, length};
 ghost use Rattle.basics.specs.Basics.{joined};
 ghost use Rattle.table_bytes.specs.Rows.{rows_in, table_in};

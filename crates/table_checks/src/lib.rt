@@ -1,4 +1,6 @@
 // The check of a table: each row holds names, each once, and then the filler alone.
+#![tactic(auto)]
+
 ghost use Rattle.std.specs.Prelude.{◌≡◌, ◌&&◌, not};
 ghost use Rattle.basics.specs.Basics.{all};
 ghost use Rattle.naming.specs.Names as spec;

@@ -1,5 +1,7 @@
 // Texts: matches and refusals as they are printed. Each function writes bytes into a text from a position on, and
 // answers the position behind them.
+#![tactic(auto)]
+
 ghost use Rattle.std.specs.Prelude.{◌≡◌, [], ◌∷◌, ◌+◌, ◌*◌, ◌≤◌, ◌<◌, length, get_or};
 ghost use Rattle.basics.specs.Basics.{over};
 ghost use Rattle.basics.specs.Limits.{label_size};

@@ -1,4 +1,6 @@
 // The check of a twig: its length, then each node's parent, edge, name and last byte.
+#![tactic(auto)]
+
 ghost use Rattle.std.specs.Prelude.{◌≡◌, ◌&&◌, ◌||◌, ◌+◌, ◌*◌, ◌%◌, ◌≤◌, length, eqb, leb, ltb};
 ghost use Rattle.basics.specs.Limits.{max_twig, node_size};
 ghost use Rattle.patterns.specs.Twigs as spec;

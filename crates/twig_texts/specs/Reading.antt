@@ -24,23 +24,23 @@ pub data Phase : Type 0 where
 pub record State : Type 0 where
   pub phase : Phase
   pub parent : ℕ
-  pub open : List ℕ
+  pub brackets : List ℕ
   pub nodes : Twig
 
 -- nothing is read
 unfoldable pub start : State
-start = record { phase = step_due; parent = no_parent; open = []; nodes = [] }
+start = record { phase = step_due; parent = no_parent; brackets = []; nodes = [] }
 
 -- the same, before another byte
 unfoldable pub moved : Phase → State → State
-moved phase st = record { phase = phase; parent = st.parent; open = st.open; nodes = st.nodes }
+moved phase st = record { phase = phase; parent = st.parent; brackets = st.brackets; nodes = st.nodes }
 
 -- a name is met: its node is the next in number, and what follows stands below it
 unfoldable pub named : ℕ → ℕ → ℕ → State → State
 named edge name digit st = record {
   phase = behind digit;
   parent = length st.nodes;
-  open = st.open;
+  brackets = st.brackets;
   nodes = record { parent = st.parent; edge = edge; name = name } ∷ st.nodes;
 }
 
@@ -51,16 +51,16 @@ renamed name (n ∷ t) = record { parent = n.parent; edge = n.edge; name = name 
 
 -- the name met last has a second digit
 unfoldable pub lengthened : ℕ → State → State
-lengthened name st = record { phase = behind 0; parent = st.parent; open = st.open; nodes = renamed name st.nodes }
+lengthened name st = record { phase = behind 0; parent = st.parent; brackets = st.brackets; nodes = renamed name st.nodes }
 
 -- a branch begins
 unfoldable pub opened : State → State
-opened st = record { phase = step_due; parent = st.parent; open = st.parent ∷ st.open; nodes = st.nodes }
+opened st = record { phase = step_due; parent = st.parent; brackets = st.parent ∷ st.brackets; nodes = st.nodes }
 
 -- a branch ends: what follows stands below the node whose bracket was open
 unfoldable pub closed : List ℕ → State → Option State
 closed [] st = none
-closed (p ∷ open) st = some (record { phase = behind 0; parent = p; open = open; nodes = st.nodes })
+closed (p ∷ brackets) st = some (record { phase = behind 0; parent = p; brackets = brackets; nodes = st.nodes })
 
 -- whether a byte is a decimal digit
 unfoldable pub is_digit : ℕ → Bool
@@ -77,7 +77,7 @@ unfoldable pub went_on : ℕ → State → ℕ → Option State
 went_on digit st c =
     cond (eqb c slash) (some (moved one_slash st))
     (cond (eqb c opening) (some (opened st))
-    (cond (eqb c closing) (closed st.open st)
+    (cond (eqb c closing) (closed st.brackets st)
     (cond (ltb 0 digit && (is_digit c && leb (10 * digit + (c - zero_digit)) max_name)) (some (lengthened (10 * digit + (c - zero_digit)) st)) none)))
 
 -- one byte read in a phase: none where it cannot go on
@@ -93,11 +93,11 @@ read_byte st c = read_by st.phase st c
 
 -- whether a text may end in a phase, some brackets being open
 unfoldable pub ends_in : Phase → List ℕ → Bool
-ends_in step_due open = false
-ends_in one_slash open = false
-ends_in two_slashes open = false
+ends_in step_due brackets = false
+ends_in one_slash brackets = false
+ends_in two_slashes brackets = false
 ends_in (behind digit) [] = true
-ends_in (behind digit) (p ∷ open) = false
+ends_in (behind digit) (p ∷ brackets) = false
 
 -- whether nodes are few enough for a twig
 unfoldable pub few_enough : Twig → Bool
@@ -105,7 +105,7 @@ few_enough t = leb (node_size * length t) max_twig
 
 -- the twig of a text read from place i on: 27 where it cannot go on or ends early, 28 where a ninth name begins
 unfoldable pub read_from : ℕ → State → List ℕ → Reply Twig
-read_from i st [] = cond (ends_in st.phase st.open) (value (reverse st.nodes)) (refused (record { number = bad_text; place = i }))
+read_from i st [] = cond (ends_in st.phase st.brackets) (value (reverse st.nodes)) (refused (record { number = bad_text; place = i }))
 read_from i st (c ∷ s) =
     elim? (read_byte st c) (refused (record { number = bad_text; place = i }))
     (λ then. cond (few_enough then.nodes) (read_from (suc i) then s) (refused (record { number = ninth_name; place = i })))

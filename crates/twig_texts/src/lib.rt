@@ -1,1 +1,2 @@
 // A crate of definitions and laws, without code.
+#![tactic(auto)]

@@ -1,4 +1,6 @@
 // Words written over others of a lent slice, and labels of sixteen words.
+#![tactic(auto)]
+
 ghost use Rattle.std.specs.Prelude.{◌≡◌, ◌+◌, ◌≤◌, length, take, drop};
 ghost use Rattle.basics.specs.Basics.{over};
 ghost use Rattle.words.specs.Writing.{written};

@@ -1,4 +1,6 @@
 // Arithmetic that wraps, for the programs that test: a sum, and a number of a row as a word and as a byte.
+#![tactic(auto)]
+
 ghost use Rattle.std.specs.Prelude.{◌≡◌};
 ghost use Rattle.wrapping.specs.Wrapping.{wrapped, word_at, byte_at};
 

@@ -1,4 +1,6 @@
 // Whether words are all 0.
+#![tactic(auto)]
+
 ghost use Rattle.std.specs.Prelude.{◌≡◌};
 ghost use Rattle.basics.specs.Basics.{all};
 ghost use Rattle.zeros.specs.Words.{is_zero};

@@ -8,18 +8,18 @@ use Rattle.case_lines.proofs.Read.{bar_start, bar_here, bar_on, bar_none}
 use Rattle.case_lines.proofs.bar_of.Statement.{statement}
 use Rattle.case_lines.proofs.bar_of.Tie as tie
 
-abbrev invariant-loop : tie.invariant-loop
-invariant-loop line i₀ i = (i ≤ length line) × (bar_of line ≡ i + bar_of (drop i line))
+abbrev invariant-loop-i : tie.invariant-loop-i
+invariant-loop-i line i₀ i = (i ≤ length line) × (bar_of line ≡ i + bar_of (drop i line))
 
-abbrev decreases-loop : tie.decreases-loop
-decreases-loop line i₀ i = length line - i
+abbrev decreases-loop-i : tie.decreases-loop-i
+decreases-loop-i line i₀ i = length line - i
 
 pub bar_of_spec : {M : Type 1} → statement M
 bar_of_spec =
     tie.close
     (tie.spec
-    invariant-loop
-    decreases-loop
+    invariant-loop-i
+    decreases-loop-i
     (λ c. search (bar_start, rules))
     (λ c. search rules)
     (λ c. search (bar_here, rules))

@@ -8,18 +8,18 @@ use Rattle.clue_lengths.proofs.Lengths.{Written, lengths_start, lengths_on, leng
 use Rattle.clue_lengths.proofs.lengths_of.Statement.{statement}
 use Rattle.clue_lengths.proofs.lengths_of.Tie as tie
 
-abbrev invariant-loop : tie.invariant-loop
-invariant-loop table rows lengths₀ i₀ lengths i = (i ≤ length rows) × (length lengths ≡ table_size) × Written rows i lengths
+abbrev invariant-loop-i : tie.invariant-loop-i
+invariant-loop-i table rows lengths₀ i₀ lengths i = (i ≤ length rows) × (length lengths ≡ table_size) × Written rows i lengths
 
-abbrev decreases-loop : tie.decreases-loop
-decreases-loop table rows lengths₀ i₀ lengths i = length rows - i
+abbrev decreases-loop-i : tie.decreases-loop-i
+decreases-loop-i table rows lengths₀ i₀ lengths i = length rows - i
 
 pub lengths_of_spec : {M : Type 1} → statement M
 lengths_of_spec =
     tie.close
     (tie.spec
-    invariant-loop
-    decreases-loop
+    invariant-loop-i
+    decreases-loop-i
     (λ c κs. search rules)
     (λ c. search (lengths_start, rules))
     (λ c. search rules)

@@ -7,32 +7,32 @@ use Rattle.decoding.proofs.Steps.{Walked, walk_from, walk_end, walk_stuck, walk_
 use Rattle.decoding.proofs.walk.Statement.{statement}
 use Rattle.decoding.proofs.walk.Tie as tie
 
-abbrev invariant-loop : tie.invariant-loop
-invariant-loop table root parts names₀ p₀ i₀ names p i = (i ≤ length parts) × Walked (clues_of table) root parts p i names
+abbrev invariant-loop-i : tie.invariant-loop-i
+invariant-loop-i table root parts names₀ p₀ i₀ names p i = (i ≤ length parts) × Walked (clues_of table) root parts p i names
 
-abbrev decreases-loop : tie.decreases-loop
-decreases-loop table root parts names₀ p₀ i₀ names p i = length parts - i
+abbrev decreases-loop-i : tie.decreases-loop-i
+decreases-loop-i table root parts names₀ p₀ i₀ names p i = length parts - i
 
 pub walk_spec : {M : Type 1} → statement M
 walk_spec =
     tie.close
     (tie.spec
-    invariant-loop
-    decreases-loop
-    (λ c. search rules)
-    (λ c. search (walk_from, rules))
-    (λ c. search rules)
-    (λ c. search rules)
-    (λ c κs. search rules)
-    (λ c. search (rules, rules))
-    (λ c. search (rules, rules))
-    (λ c. search rules)
-    (λ c κs. search rules)
-    (λ c κs. search rules)
-    (λ c. search (walk_stuck, rules))
-    (λ c. search rules)
-    (λ c. search rules)
-    (λ c. search rules)
-    (λ c. search rules)
-    (λ c. search (walk_on, rules))
-    (λ c. search (walk_end, rules)))
+    invariant-loop-i
+    decreases-loop-i
+    (λ c-1. search rules)
+    (λ c-1. search (walk_from, rules))
+    (λ c-1. search rules)
+    (λ c-1. search rules)
+    (λ c-1 κs. search rules)
+    (λ c-1. search (rules, rules))
+    (λ c-1. search (rules, rules))
+    (λ c-1. search rules)
+    (λ c-1 κs. search rules)
+    (λ c-1 κs. search rules)
+    (λ c-1. search (walk_stuck, rules))
+    (λ c-1. search rules)
+    (λ c-1. search rules)
+    (λ c-1. search rules)
+    (λ c-1. search rules)
+    (λ c-1. search (walk_on, rules))
+    (λ c-1. search (walk_end, rules)))

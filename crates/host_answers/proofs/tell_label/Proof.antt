@@ -8,18 +8,18 @@ use Rattle.host_answers.proofs.Fits.{fit_more, fit_short, fit_all}
 use Rattle.host_answers.proofs.tell_label.Statement.{statement}
 use Rattle.host_answers.proofs.tell_label.Tie as tie
 
-abbrev invariant-loop : tie.invariant-loop
-invariant-loop words out₀ i₀ out i = (i ≤ length words) × (i ≤ length out₀) × (length out ≡ length out₀) × (out ≡ take i words ++ drop i out₀)
+abbrev invariant-loop-i : tie.invariant-loop-i
+invariant-loop-i words out₀ i₀ out i = (i ≤ length words) × (i ≤ length out₀) × (length out ≡ length out₀) × (out ≡ take i words ++ drop i out₀)
 
-abbrev decreases-loop : tie.decreases-loop
-decreases-loop words out₀ i₀ out i = length words - i
+abbrev decreases-loop-i : tie.decreases-loop-i
+decreases-loop-i words out₀ i₀ out i = length words - i
 
 pub tell_label_spec : {M : Type 1} → statement M
 tell_label_spec =
     tie.close
     (tie.spec
-    invariant-loop
-    decreases-loop
+    invariant-loop-i
+    decreases-loop-i
     (λ c. search rules)
     (λ c. search rules)
     (λ c. search (fit_short, rules))

@@ -9,18 +9,18 @@ use Rattle.label_order.proofs.Steps.{before_end, before_prefix, before_less, bef
 use Rattle.label_order.proofs.before.Statement.{statement}
 use Rattle.label_order.proofs.before.Tie as tie
 
-abbrev invariant-loop : tie.invariant-loop
-invariant-loop a b i₀ i = (i ≤ length b) × (before a b ≡ before (drop i a) (drop i b))
+abbrev invariant-loop-i : tie.invariant-loop-i
+invariant-loop-i a b i₀ i = (i ≤ length b) × (before a b ≡ before (drop i a) (drop i b))
 
-abbrev decreases-loop : tie.decreases-loop
-decreases-loop a b i₀ i = length b - i
+abbrev decreases-loop-i : tie.decreases-loop-i
+decreases-loop-i a b i₀ i = length b - i
 
 pub before_spec : {M : Type 1} → statement M
 before_spec =
     tie.close
     (tie.spec
-    invariant-loop
-    decreases-loop
+    invariant-loop-i
+    decreases-loop-i
     (λ c. search rules)
     (λ c. search (before_prefix, rules))
     (λ c. search rules)

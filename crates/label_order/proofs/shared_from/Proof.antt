@@ -8,18 +8,18 @@ use Rattle.label_order.proofs.Steps.{shared_end, shared_short, shared_differ, sh
 use Rattle.label_order.proofs.shared_from.Statement.{statement}
 use Rattle.label_order.proofs.shared_from.Tie as tie
 
-abbrev invariant-loop : tie.invariant-loop
-invariant-loop a b from i₀ i = (i ≤ length a) × (shared a b ≡ i + shared (drop i a) (drop i b))
+abbrev invariant-loop-i : tie.invariant-loop-i
+invariant-loop-i a b from i₀ i = (i ≤ length a) × (shared a b ≡ i + shared (drop i a) (drop i b))
 
-abbrev decreases-loop : tie.decreases-loop
-decreases-loop a b from i₀ i = length a - i
+abbrev decreases-loop-i : tie.decreases-loop-i
+decreases-loop-i a b from i₀ i = length a - i
 
 pub shared_from_spec : {M : Type 1} → statement M
 shared_from_spec =
     tie.close
     (tie.spec
-    invariant-loop
-    decreases-loop
+    invariant-loop-i
+    decreases-loop-i
     (λ c. search rules)
     (λ c. search (shared_short, rules))
     (λ c. search rules)

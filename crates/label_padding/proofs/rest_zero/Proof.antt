@@ -10,18 +10,18 @@ use Rattle.label_padding.specs.Padding.{rest_fits}
 use Rattle.label_padding.proofs.rest_zero.Statement.{statement}
 use Rattle.label_padding.proofs.rest_zero.Tie as tie
 
-abbrev invariant-loop : tie.invariant-loop
-invariant-loop unused store at depth any₀ w₀ any w = (w ≤ label_size) × (eqb any 0 ≡ words_fit (rest_fits depth) store at w)
+abbrev invariant-loop-w : tie.invariant-loop-w
+invariant-loop-w unused store at depth any₀ w₀ any w = (w ≤ label_size) × (eqb any 0 ≡ words_fit (rest_fits depth) store at w)
 
-abbrev decreases-loop : tie.decreases-loop
-decreases-loop unused store at depth any₀ w₀ any w = label_size - w
+abbrev decreases-loop-w : tie.decreases-loop-w
+decreases-loop-w unused store at depth any₀ w₀ any w = label_size - w
 
 pub rest_zero_spec : {M : Type 1} → statement M
 rest_zero_spec =
     tie.close
     (tie.spec
-    invariant-loop
-    decreases-loop
+    invariant-loop-w
+    decreases-loop-w
     (λ c. search (words_start, rules))
     (λ c. search rules)
     (λ c. search rules)

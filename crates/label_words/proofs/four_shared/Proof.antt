@@ -6,7 +6,7 @@ use Rattle.label_words.proofs.four_shared.Statement.{statement}
 use Rattle.label_words.proofs.four_shared.Tie as tie
 
 -- a count of at most four fits `usize`
-count_fits_usize : tie.Need-overflow-cast-result
+count_fits_usize : tie.Need-overflow_cast-result
 count_fits_usize c = Fits-under _ _ 5 (search (change_small, rules)) tt
 
 pub four_shared_spec : {M : Type 1} → statement M

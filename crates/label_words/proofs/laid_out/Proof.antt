@@ -10,22 +10,22 @@ use Rattle.label_words.proofs.Fits.{depth_within, all_start, all_on, all_misfit,
 use Rattle.label_words.proofs.laid_out.Statement.{statement}
 use Rattle.label_words.proofs.laid_out.Tie as tie
 
-abbrev invariant-loop : tie.invariant-loop
-invariant-loop largest words depth bounded any₀ w₀ any w = (w ≤ label_size) × (eqb any 0 ≡ words_fit (word_fits bounded) words 0 w)
+abbrev invariant-loop-w : tie.invariant-loop-w
+invariant-loop-w largest words depth bounded any₀ w₀ any w = (w ≤ label_size) × (eqb any 0 ≡ words_fit (word_fits bounded) words 0 w)
 
-abbrev decreases-loop : tie.decreases-loop
-decreases-loop largest words depth bounded any₀ w₀ any w = label_size - w
+abbrev decreases-loop-w : tie.decreases-loop-w
+decreases-loop-w largest words depth bounded any₀ w₀ any w = label_size - w
 
 -- a word is a depth that `usize` holds
-depth_fits_usize : tie.Need-overflow-cast-depth invariant-loop decreases-loop
-depth_fits_usize c = Fits-widen tt (c.shared-slice-known2.given _)
+depth_fits_usize : tie.Need-overflow_cast-depth invariant-loop-w decreases-loop-w
+depth_fits_usize c = Fits-widen tt (c.shared_slice_known-2-1.given _)
 
 pub laid_out_spec : {M : Type 1} → statement M
 laid_out_spec =
     tie.close
     (tie.spec
-    invariant-loop
-    decreases-loop
+    invariant-loop-w
+    decreases-loop-w
     (λ c. search rules)
     depth_fits_usize
     (λ c κs. search rules)

@@ -4,13 +4,9 @@ use mir.Facts.{Fits-widen}
 use Rattle.label_words.proofs.wide.Statement.{statement}
 use Rattle.label_words.proofs.wide.Tie as tie
 
--- a word of sixteen bits fits `u64`
-word_fits_u64 : tie.Need-overflow-cast-result
-word_fits_u64 c = Fits-widen tt (c.shared-slice-known.given _)
-
 -- the answer is the word, and has sixteen bits
 word_answered : tie.Need-returns
-word_answered c = (search rules, (c.shared-slice-known.given _).fits)
+word_answered c = (search rules, (c.shared_slice_known-1.given _).fits)
 
 pub wide_spec : {M : Type 1} → statement M
 wide_spec =
@@ -18,5 +14,5 @@ wide_spec =
     (tie.spec
     (λ c. search rules)
     (λ c. search rules)
-    word_fits_u64
+    (λ c. search rules)
     word_answered)

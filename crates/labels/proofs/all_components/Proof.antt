@@ -10,18 +10,18 @@ use Rattle.labels.proofs.Steps.{large_word, small_word}
 use Rattle.labels.proofs.all_components.Statement.{statement}
 use Rattle.labels.proofs.all_components.Tie as tie
 
-abbrev invariant-loop : tie.invariant-loop
-invariant-loop s i₀ i = (i ≤ length s) × (all is_component s ≡ all is_component (drop i s))
+abbrev invariant-loop-i : tie.invariant-loop-i
+invariant-loop-i s i₀ i = (i ≤ length s) × (all is_component s ≡ all is_component (drop i s))
 
-abbrev decreases-loop : tie.decreases-loop
-decreases-loop s i₀ i = length s - i
+abbrev decreases-loop-i : tie.decreases-loop-i
+decreases-loop-i s i₀ i = length s - i
 
 pub all_components_spec : {M : Type 1} → statement M
 all_components_spec =
     tie.close
     (tie.spec
-    invariant-loop
-    decreases-loop
+    invariant-loop-i
+    decreases-loop-i
     (λ c. search rules)
     (λ c. search rules)
     (λ c. search rules)

@@ -1,13 +1,8 @@
 -- `labels::is_label` meets its contract: the four tests of refusal 15 in turn.
 use borrow.Author.Rules.{rules}
-use mir.Facts.{Fits-widen}
 use Rattle.labels.proofs.Steps.{label_size_lem, label_deep, label_large, label_unused}
 use Rattle.labels.proofs.is_label.Statement.{statement}
 use Rattle.labels.proofs.is_label.Tie as tie
-
--- a word is a depth that `usize` holds
-depth_fits_usize : tie.Need-overflow-cast-d
-depth_fits_usize c = Fits-widen tt (c.shared-slice-known2.given _)
 
 pub is_label_spec : {M : Type 1} → statement M
 is_label_spec =
@@ -15,7 +10,7 @@ is_label_spec =
     (tie.spec
     (λ c. search (label_size_lem, rules))
     (λ c. search rules)
-    depth_fits_usize
+    (λ c. search rules)
     (λ c. search (label_deep, rules))
     (λ c κs. search rules)
     (λ c κs. search rules)

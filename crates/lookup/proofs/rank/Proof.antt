@@ -9,19 +9,19 @@ use Rattle.lookup.proofs.Steps.{in_room, in_shallow, rank_most, rank_over, rank_
 use Rattle.lookup.proofs.rank.Statement.{statement}
 use Rattle.lookup.proofs.rank.Tie as tie
 
-abbrev invariant-loop : tie.invariant-loop
-invariant-loop store count label subtree low₀ high₀ low high =
+abbrev invariant-loop-low : tie.invariant-loop-low
+invariant-loop-low store count label subtree low₀ high₀ low high =
     (high ≤ count) × (low ≤ leading (passes subtree label) (elements count store)) × (leading (passes subtree label) (elements count store) ≤ high)
 
-abbrev decreases-loop : tie.decreases-loop
-decreases-loop store count label subtree low₀ high₀ low high = high - low
+abbrev decreases-loop-low : tie.decreases-loop-low
+decreases-loop-low store count label subtree low₀ high₀ low high = high - low
 
 pub rank_spec : {M : Type 1} → statement M
 rank_spec =
     tie.close
     (tie.spec
-    invariant-loop
-    decreases-loop
+    invariant-loop-low
+    decreases-loop-low
     (λ c. search (rank_most, rules))
     (λ c. search rules)
     (λ c. search rules)

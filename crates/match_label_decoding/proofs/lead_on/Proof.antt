@@ -13,45 +13,45 @@ use Rattle.match_label_decoding.proofs.Leading.{lead_along, lead_end, lead_stuck
 use Rattle.match_label_decoding.proofs.lead_on.Statement.{statement}
 use Rattle.match_label_decoding.proofs.lead_on.Tie as tie
 
-abbrev invariant-loop : tie.invariant-loop
-invariant-loop table lengths label s names₀ j₀ names j =
+abbrev invariant-loop-j : tie.invariant-loop-j
+invariant-loop-j table lengths label s names₀ j₀ names j =
     (j ≤ length label) × (length names ≡ label_size) × Along (clues_of table) (get_or names₀ 0 0) (take j label) names
 
-abbrev decreases-loop : tie.decreases-loop
-decreases-loop table lengths label s names₀ j₀ names j = length label - j
+abbrev decreases-loop-j : tie.decreases-loop-j
+decreases-loop-j table lengths label s names₀ j₀ names j = length label - j
 
 -- a name fits `usize`
-name_fits_usize : tie.Need-overflow-cast-parent invariant-loop decreases-loop
-name_fits_usize c = Fits-widen tt (c.slice-known2.given _)
+name_fits_usize : tie.Need-overflow_cast-parent invariant-loop-j decreases-loop-j
+name_fits_usize c-1 = Fits-widen tt (c-1.slice_known-in-loop-j-1.given _)
 
 -- a component that leads nowhere ends the loop, and nothing is told of the names
-clue_empty : tie.Need-returns invariant-loop decreases-loop
-clue_empty c = (search (lead_stuck, rules), (search rules, λ e. absurd (subst T (sym e) tt)))
+clue_empty : tie.Need-returns-in_default invariant-loop-j decreases-loop-j
+clue_empty c-1 = (search (lead_stuck, rules), (search rules, λ e. absurd (subst T (sym e) tt)))
 
 -- behind the last component the names are those along the label
-led_to_the_end : tie.Need-returns-2 invariant-loop decreases-loop
-led_to_the_end c = (search (lead_end, rules), (search rules, λ e. search (lead_along, rules)))
+led_to_the_end : tie.Need-returns invariant-loop-j decreases-loop-j
+led_to_the_end c-1 = (search (lead_end, rules), (search rules, λ e. search (lead_along, rules)))
 
 pub lead_on_spec : {M : Type 1} → statement M
 lead_on_spec =
     tie.close
     (tie.spec
-    invariant-loop
-    decreases-loop
-    (λ c. search rules)
-    (λ c. search rules)
+    invariant-loop-j
+    decreases-loop-j
+    (λ c-1. search rules)
+    (λ c-1. search rules)
     name_fits_usize
-    (λ c κs. search rules)
-    (λ c. search rules)
-    (λ c. search rules)
-    (λ c κs. search (length_is, rules))
-    (λ c. search rules)
-    (λ c. search rules)
-    (λ c. search rules)
+    (λ c-1 κs. search rules)
+    (λ c-1. search rules)
+    (λ c-1. search rules)
+    (λ c-1 κs. search (length_is, rules))
+    (λ c-1. search rules)
+    (λ c-1. search rules)
+    (λ c-1. search rules)
     clue_empty
-    (λ c. search rules)
-    (λ c. search rules)
-    (λ c. search rules)
-    (λ c. search (lead_next, rules))
-    (λ c. search rules)
+    (λ c-1. search rules)
+    (λ c-1. search rules)
+    (λ c-1. search rules)
+    (λ c-1. search (lead_next, rules))
+    (λ c-1. search rules)
     led_to_the_end)

@@ -8,31 +8,27 @@ use Rattle.match_label_decoding.proofs.read_label.Statement.{statement}
 use Rattle.match_label_decoding.proofs.read_label.Tie as tie
 
 -- words that are no label are ruled out
-no_label : tie.Need-returns
+no_label : tie.Need-returns-then-not-laid_out
 no_label c = link_out _ _ _ _ _ _ _ (search (link_label, rules)) (search rules)
 
 -- a label out of order is ruled out
-out_of_order : tie.Need-returns-2
+out_of_order : tie.Need-returns-then-not-is_later
 out_of_order c = link_out _ _ _ _ _ _ _ (search (link_later, rules)) (search rules)
 
 -- the names begin with those along what the label shares with the one before it
-names_along_share : tie.Need-lead-on-requires
+names_along_share : tie.Need-lead_on-requires
 names_along_share c κs = (search rules, search (share_in, rules), search rules, search rules, search (share_along, rules))
 
 -- a label with an empty clue on its way is ruled out
-clue_empty : tie.Need-returns-3
+clue_empty : tie.Need-returns-then-not-lead_on
 clue_empty c = link_out _ _ _ _ _ _ _ (search (link_stuck, rules)) (search rules)
 
--- a name fits `u16`
-name_fits_u16 : tie.Need-overflow-cast-asks
-name_fits_u16 c = Fits-widen tt (c.slice-known3.given _)
-
 -- a label of another name is ruled out
-other_name : tie.Need-returns-4
+other_name : tie.Need-returns-then-not-asks
 other_name c = link_out _ _ _ _ _ _ _ (search (link_name, rules)) (search rules)
 
 -- a label that passes every test stands, with the names along it
-label_stands_lem : tie.Need-returns-5
+label_stands_lem : tie.Need-returns
 label_stands_lem c = (search (link_shares, link_stands, rules), (search rules, λ e. search (link_along, rules)))
 
 pub read_label_spec : {M : Type 1} → statement M
@@ -51,7 +47,7 @@ read_label_spec =
     (λ c. search rules)
     clue_empty
     (λ c. search rules)
-    name_fits_u16
+    (λ c. search rules)
     (λ c κs. search rules)
     (λ c. search rules)
     other_name

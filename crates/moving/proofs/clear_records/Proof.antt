@@ -9,18 +9,18 @@ use Rattle.moving.proofs.Moves.{clear_more, clear_is}
 use Rattle.moving.proofs.clear_records.Statement.{statement}
 use Rattle.moving.proofs.clear_records.Tie as tie
 
-abbrev invariant-loop : tie.invariant-loop
-invariant-loop words₀ from count n k₀ words k = (k ≤ n) × (length words ≡ length words₀) × (words ≡ paste words₀ (record_size * from) (replicate n 0) k)
+abbrev invariant-loop-k : tie.invariant-loop-k
+invariant-loop-k words₀ from count n k₀ words k = (k ≤ n) × (length words ≡ length words₀) × (words ≡ paste words₀ (record_size * from) (replicate n 0) k)
 
-abbrev decreases-loop : tie.decreases-loop
-decreases-loop words₀ from count n k₀ words k = n - k
+abbrev decreases-loop-k : tie.decreases-loop-k
+decreases-loop-k words₀ from count n k₀ words k = n - k
 
 pub clear_records_spec : {M : Type 1} → statement M
 clear_records_spec =
     tie.close
     (tie.spec
-    invariant-loop
-    decreases-loop
+    invariant-loop-k
+    decreases-loop-k
     (λ c. search rules)
     (λ c. search rules)
     (λ c. search (paste-zero, rules))

@@ -9,18 +9,18 @@ use Rattle.moving.proofs.Moves.{copy_more, put_is}
 use Rattle.moving.proofs.copy_record.Statement.{statement}
 use Rattle.moving.proofs.copy_record.Tie as tie
 
-abbrev invariant-loop : tie.invariant-loop
-invariant-loop words₀ from to i₀ words i = (i ≤ record_size) × (length words ≡ length words₀) × (words ≡ paste words₀ (record_size * to) (drop (record_size * from) words₀) i)
+abbrev invariant-loop-i : tie.invariant-loop-i
+invariant-loop-i words₀ from to i₀ words i = (i ≤ record_size) × (length words ≡ length words₀) × (words ≡ paste words₀ (record_size * to) (drop (record_size * from) words₀) i)
 
-abbrev decreases-loop : tie.decreases-loop
-decreases-loop words₀ from to i₀ words i = record_size - i
+abbrev decreases-loop-i : tie.decreases-loop-i
+decreases-loop-i words₀ from to i₀ words i = record_size - i
 
 pub copy_record_spec : {M : Type 1} → statement M
 copy_record_spec =
     tie.close
     (tie.spec
-    invariant-loop
-    decreases-loop
+    invariant-loop-i
+    decreases-loop-i
     (λ c. search (paste-zero, rules))
     (λ c. search rules)
     (λ c. search rules)

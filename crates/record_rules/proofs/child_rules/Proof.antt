@@ -10,14 +10,6 @@ use Rattle.record_rules.proofs.child_rules.Tie as tie
 shared_fits_usize : tie.Need-overflow-add-if2
 shared_fits_usize c = Fits-under _ _ 17 (search (shared_few, rules)) tt
 
--- the name of the record above fits `usize`
-above_fits_usize : tie.Need-overflow-cast-length-of
-above_fits_usize c = Fits-widen tt (c.shared-slice-known5.given _)
-
--- the name of the record fits `usize`
-name_fits_usize : tie.Need-overflow-cast-length-of-2
-name_fits_usize c = let name : tie.After-shared-slice-known4 = search in Fits-widen tt (name.shared-slice-known4.given _)
-
 pub child_rules_spec : {M : Type 1} → statement M
 child_rules_spec =
     tie.close
@@ -40,7 +32,7 @@ child_rules_spec =
     (λ c. search rules)
     (λ c. search rules)
     (λ c. search rules)
-    above_fits_usize
+    (λ c. search rules)
     (λ c κs. search rules)
     (λ c κs. search (length_is, rules))
     (λ c. search (below_name, rules))
@@ -48,7 +40,7 @@ child_rules_spec =
     (λ c. search rules)
     (λ c. search rules)
     (λ c. search (below_last, rules))
-    name_fits_usize
+    (λ c. search rules)
     (λ c κs. search rules)
     (λ c. search rules)
     (λ c. search rules)

@@ -6,11 +6,11 @@ use Rattle.record_rules.proofs.record_rules.Statement.{statement}
 use Rattle.record_rules.proofs.record_rules.Tie as tie
 
 -- record 0 can be tested by the rules of record 0
-root_testable : tie.Need-root-rules-requires
+root_testable : tie.Need-root_rules-requires
 root_testable c κs = (search rules, search (root_inside, rules), search (root_flat, rules))
 
 -- a later record can be tested behind the previous one, and below the record that its depth names
-child_testable : tie.Need-child-rules-requires
+child_testable : tie.Need-child_rules-requires
 child_testable c κs = (
   search rules,
   search (shares_behind, rules),

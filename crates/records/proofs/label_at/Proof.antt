@@ -5,10 +5,6 @@ use Rattle.records.proofs.Parts.{record_label, record_long}
 use Rattle.records.proofs.label_at.Statement.{statement}
 use Rattle.records.proofs.label_at.Tie as tie
 
--- a word is a depth that `usize` holds
-depth_fits_usize : tie.Need-overflow-cast-depth
-depth_fits_usize c = Fits-widen tt (c.shared-slice-known.given _)
-
 pub label_at_spec : {M : Type 1} → statement M
 label_at_spec =
     tie.close
@@ -16,7 +12,7 @@ label_at_spec =
     (λ c. search rules)
     (λ c. search rules)
     (λ c. search rules)
-    depth_fits_usize
+    (λ c. search rules)
     (λ c. search rules)
     (λ c. search rules)
     (λ c. search rules)

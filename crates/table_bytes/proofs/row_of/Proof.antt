@@ -8,18 +8,18 @@ use Rattle.table_bytes.proofs.Rows.{Copied, row_more, row_all}
 use Rattle.table_bytes.proofs.row_of.Statement.{statement}
 use Rattle.table_bytes.proofs.row_of.Tie as tie
 
-abbrev invariant-loop : tie.invariant-loop
-invariant-loop bytes row₀ k₀ row k = (k ≤ length bytes) × (length row ≡ table_size) × Copied bytes filler k row
+abbrev invariant-loop-k : tie.invariant-loop-k
+invariant-loop-k bytes row₀ k₀ row k = (k ≤ length bytes) × (length row ≡ table_size) × Copied bytes filler k row
 
-abbrev decreases-loop : tie.decreases-loop
-decreases-loop bytes row₀ k₀ row k = length bytes - k
+abbrev decreases-loop-k : tie.decreases-loop-k
+decreases-loop-k bytes row₀ k₀ row k = length bytes - k
 
 pub row_of_spec : {M : Type 1} → statement M
 row_of_spec =
     tie.close
     (tie.spec
-    invariant-loop
-    decreases-loop
+    invariant-loop-k
+    decreases-loop-k
     (λ c. search rules)
     (λ c. search rules)
     (λ c. search rules)

@@ -9,18 +9,18 @@ use Rattle.table_bytes.proofs.Rows.{Copied, row_long, rows_more, rows_all}
 use Rattle.table_bytes.proofs.table_of.Statement.{statement}
 use Rattle.table_bytes.proofs.table_of.Tie as tie
 
-abbrev invariant-loop : tie.invariant-loop
-invariant-loop bytes table₀ p₀ table p = (p ≤ table_size) × (length table ≡ table_size) × Copied (rows_in bytes) (replicate table_size filler) p table
+abbrev invariant-loop-p : tie.invariant-loop-p
+invariant-loop-p bytes table₀ p₀ table p = (p ≤ table_size) × (length table ≡ table_size) × Copied (rows_in bytes) (replicate table_size filler) p table
 
-abbrev decreases-loop : tie.decreases-loop
-decreases-loop bytes table₀ p₀ table p = table_size - p
+abbrev decreases-loop-p : tie.decreases-loop-p
+decreases-loop-p bytes table₀ p₀ table p = table_size - p
 
 pub table_of_spec : {M : Type 1} → statement M
 table_of_spec =
     tie.close
     (tie.spec
-    invariant-loop
-    decreases-loop
+    invariant-loop-p
+    decreases-loop-p
     (λ c. search rules)
     (λ c. search rules)
     (λ c. search rules)

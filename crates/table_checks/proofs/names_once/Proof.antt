@@ -8,18 +8,18 @@ use Rattle.table_checks.proofs.Marks.{Marked, mark_from, mark_end, mark_high, ma
 use Rattle.table_checks.proofs.names_once.Statement.{statement}
 use Rattle.table_checks.proofs.names_once.Tie as tie
 
-abbrev invariant-loop : tie.invariant-loop
-invariant-loop names seen₀ i₀ seen i = (i ≤ length names) × (length seen ≡ table_size) × Marked names i seen
+abbrev invariant-loop-i : tie.invariant-loop-i
+invariant-loop-i names seen₀ i₀ seen i = (i ≤ length names) × (length seen ≡ table_size) × Marked names i seen
 
-abbrev decreases-loop : tie.decreases-loop
-decreases-loop names seen₀ i₀ seen i = length names - i
+abbrev decreases-loop-i : tie.decreases-loop-i
+decreases-loop-i names seen₀ i₀ seen i = length names - i
 
 pub names_once_spec : {M : Type 1} → statement M
 names_once_spec =
     tie.close
     (tie.spec
-    invariant-loop
-    decreases-loop
+    invariant-loop-i
+    decreases-loop-i
     (λ c. search (mark_from, rules))
     (λ c. search rules)
     (λ c. search (mark_high, rules))

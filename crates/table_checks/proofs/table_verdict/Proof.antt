@@ -9,18 +9,18 @@ use Rattle.table_checks.proofs.Marks.{table_end, table_bad, table_on}
 use Rattle.table_checks.proofs.table_verdict.Statement.{statement}
 use Rattle.table_checks.proofs.table_verdict.Tie as tie
 
-abbrev invariant-loop : tie.invariant-loop
-invariant-loop table rows p₀ p = (p ≤ length rows) × (all good_row rows ≡ all good_row (drop p rows))
+abbrev invariant-loop-p : tie.invariant-loop-p
+invariant-loop-p table rows p₀ p = (p ≤ length rows) × (all good_row rows ≡ all good_row (drop p rows))
 
-abbrev decreases-loop : tie.decreases-loop
-decreases-loop table rows p₀ p = length rows - p
+abbrev decreases-loop-p : tie.decreases-loop-p
+decreases-loop-p table rows p₀ p = length rows - p
 
 pub table_verdict_spec : {M : Type 1} → statement M
 table_verdict_spec =
     tie.close
     (tie.spec
-    invariant-loop
-    decreases-loop
+    invariant-loop-p
+    decreases-loop-p
     (λ c κs. search rules)
     (λ c. search rules)
     (λ c. search rules)

@@ -9,23 +9,23 @@ use Rattle.texts.proofs.Digits.{digit_some, digit_in, first_in, digit_before, di
 use Rattle.texts.proofs.put_decimal.Statement.{statement}
 use Rattle.texts.proofs.put_decimal.Tie as tie
 
-abbrev invariant-loop : tie.invariant-loop
-invariant-loop text₀ at n end i₀ rest₀ text i rest =
+abbrev invariant-loop-rest : tie.invariant-loop-rest
+invariant-loop-rest text₀ at n end i₀ rest₀ text i rest =
     (end ≡ at + length (decimal n))
     × (length text ≡ length text₀)
     × (i ≤ length text₀)
     × (i ≡ at + length (decimal rest))
     × (written at (decimal n) text₀ ≡ written at (decimal rest) text)
 
-abbrev decreases-loop : tie.decreases-loop
-decreases-loop text₀ at n end i₀ rest₀ text i rest = rest
+abbrev decreases-loop-rest : tie.decreases-loop-rest
+decreases-loop-rest text₀ at n end i₀ rest₀ text i rest = rest
 
 pub put_decimal_spec : {M : Type 1} → statement M
 put_decimal_spec =
     tie.close
     (tie.spec
-    invariant-loop
-    decreases-loop
+    invariant-loop-rest
+    decreases-loop-rest
     (λ c κs. search rules)
     (λ c. search rules)
     (λ c. search rules)

@@ -8,30 +8,30 @@ use Rattle.texts.proofs.LabelTexts.{dotted, root_room, root_reach, root_put, fir
 use Rattle.texts.proofs.put_label.Statement.{statement}
 use Rattle.texts.proofs.put_label.Tie as tie
 
-abbrev invariant-loop : tie.invariant-loop
-invariant-loop text₀ at words depth end₀ i₀ text end i = (i ≤ get_or words 0 0) × Pending end₀ (dotted words 1) text₀ end (dotted words i) text
+abbrev invariant-loop-i : tie.invariant-loop-i
+invariant-loop-i text₀ at words depth end₀ i₀ text-1 end i = (i ≤ get_or words 0 0) × Pending end₀ (dotted words 1) text₀ end (dotted words i) text-1
 
-abbrev decreases-loop : tie.decreases-loop
-decreases-loop text₀ at words depth end₀ i₀ text end i = depth - i
+abbrev decreases-loop-i : tie.decreases-loop-i
+decreases-loop-i text₀ at words depth end₀ i₀ text-1 end i = depth - i
 
 -- a word is a depth that `usize` holds
-depth_fits_lem : tie.Need-overflow-cast-depth invariant-loop decreases-loop
-depth_fits_lem c = Fits-widen tt (c.shared-slice-known2.given _)
+depth_fits_lem : tie.Need-overflow_cast-depth invariant-loop-i decreases-loop-i
+depth_fits_lem c = Fits-widen tt (c.shared_slice_known-2-1.given _)
 
 -- the first component is a number that `usize` holds
-first_fits : tie.Need-overflow-cast-put-decimal invariant-loop decreases-loop
-first_fits c = Fits-widen tt (c.shared-slice-known3.given _)
+first_fits : tie.Need-overflow-cast-put-decimal invariant-loop-i decreases-loop-i
+first_fits c = Fits-widen tt (c.shared_slice_known-3-1.given _)
 
 -- a later component is a number that `usize` holds
-component_fits : tie.Need-overflow-cast-component invariant-loop decreases-loop
-component_fits c = Fits-widen tt (c.shared-slice-known4.given _)
+component_fits : tie.Need-overflow_cast-component invariant-loop-i decreases-loop-i
+component_fits c = Fits-widen tt (c.shared_slice_known-in-loop-i-1.given _)
 
 pub put_label_spec : {M : Type 1} → statement M
 put_label_spec =
     tie.close
     (tie.spec
-    invariant-loop
-    decreases-loop
+    invariant-loop-i
+    decreases-loop-i
     (λ c. search rules)
     depth_fits_lem
     (λ c κs. search (root_room, rules))

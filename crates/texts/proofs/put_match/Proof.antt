@@ -7,18 +7,18 @@ use Rattle.texts.proofs.LineTexts.{spaced, label_held, space_room, label_room_le
 use Rattle.texts.proofs.put_match.Statement.{statement}
 use Rattle.texts.proofs.put_match.Tie as tie
 
-abbrev invariant-loop : tie.invariant-loop
-invariant-loop text₀ at words k end₀ i₀ text end i = (i ≤ k) × Pending end₀ (spaced k words 1) text₀ end (spaced k words i) text
+abbrev invariant-loop-i : tie.invariant-loop-i
+invariant-loop-i text₀ at words k end₀ i₀ text-1 end i = (i ≤ k) × Pending end₀ (spaced k words 1) text₀ end (spaced k words i) text-1
 
-abbrev decreases-loop : tie.decreases-loop
-decreases-loop text₀ at words k end₀ i₀ text end i = k - i
+abbrev decreases-loop-i : tie.decreases-loop-i
+decreases-loop-i text₀ at words k end₀ i₀ text-1 end i = k - i
 
 pub put_match_spec : {M : Type 1} → statement M
 put_match_spec =
     tie.close
     (tie.spec
-    invariant-loop
-    decreases-loop
+    invariant-loop-i
+    decreases-loop-i
     (λ c κs. (search (first_held, rules), search (first_room, rules)))
     (λ c. search (others_pending, rules))
     (λ c κs. search (space_room, rules))

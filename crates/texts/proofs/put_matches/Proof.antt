@@ -9,19 +9,19 @@ use Rattle.texts.proofs.MatchTexts.{lines, matches_start, match_in, labels_fit, 
 use Rattle.texts.proofs.put_matches.Statement.{statement}
 use Rattle.texts.proofs.put_matches.Tie as tie
 
-abbrev invariant-loop : tie.invariant-loop
-invariant-loop words count k text₀ end₀ m₀ text end m = (m ≤ count) × Pending 0 (matches_text (matches_in k count words)) text₀ end (lines k count words m) text
+abbrev invariant-loop-m : tie.invariant-loop-m
+invariant-loop-m words count k text₀ end₀ m₀ text-1 end m = (m ≤ count) × Pending 0 (matches_text (matches_in k count words)) text₀ end (lines k count words m) text-1
 
-abbrev decreases-loop : tie.decreases-loop
-decreases-loop words count k text₀ end₀ m₀ text end m = count - m
+abbrev decreases-loop-m : tie.decreases-loop-m
+decreases-loop-m words count k text₀ end₀ m₀ text-1 end m = count - m
 
 pub put_matches_spec : {M : Type 1} → statement M
 put_matches_spec =
     tie.close
     (tie.spec
-    invariant-loop
-    decreases-loop
-    (λ c. search (matches_start, c.before.shared-slice-known.given, rules))
+    invariant-loop-m
+    decreases-loop-m
+    (λ c. search (matches_start, c.before.shared_slice_known-1.given, rules))
     (λ c. Fits-under _ _ (2 ^ 63) (search (labels_fit, rules)) tt)
     (λ c. Fits-under _ _ (2 ^ 63) (search (words_fit_lem, rules)) tt)
     (λ c. Fits-under _ _ (2 ^ 63) (search (bytes_fit, rules)) tt)

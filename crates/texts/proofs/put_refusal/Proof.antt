@@ -6,7 +6,7 @@ use Rattle.texts.proofs.put_refusal.Statement.{statement}
 use Rattle.texts.proofs.put_refusal.Tie as tie
 
 pub put_refusal_spec : {M : Type 1} → statement M
-unfolding text
+unfolding text-1
 put_refusal_spec =
     tie.close
     (tie.spec

@@ -9,18 +9,18 @@ use Rattle.twig_checks.proofs.Checks.{Checked, length_refused, node_refused, che
 use Rattle.twig_checks.proofs.check_twig.Statement.{statement}
 use Rattle.twig_checks.proofs.check_twig.Tie as tie
 
-abbrev invariant-loop : tie.invariant-loop
-invariant-loop twig n q₀ q = (n ≡ length (read_twig twig)) × (q ≤ n) × Checked twig q
+abbrev invariant-loop-q : tie.invariant-loop-q
+invariant-loop-q twig n q₀ q = (n ≡ length (read_twig twig)) × (q ≤ n) × Checked twig q
 
-abbrev decreases-loop : tie.decreases-loop
-decreases-loop twig n q₀ q = n - q
+abbrev decreases-loop-q : tie.decreases-loop-q
+decreases-loop-q twig n q₀ q = n - q
 
 pub check_twig_spec : {M : Type 1} → statement M
 check_twig_spec =
     tie.close
     (tie.spec
-    invariant-loop
-    decreases-loop
+    invariant-loop-q
+    decreases-loop-q
     (λ c κs. search rules)
     (λ c κs. search rules)
     (λ c. search (length_refused, rules))

@@ -8,18 +8,18 @@ use Rattle.words.proofs.Labels.{copy_more, copy_all}
 use Rattle.words.proofs.label_words.Statement.{statement}
 use Rattle.words.proofs.label_words.Tie as tie
 
-abbrev invariant-loop : tie.invariant-loop
-invariant-loop from at words₀ w₀ words w = (w ≤ 16) × (length words ≡ 16) × (words ≡ paste (replicate 16 0) 0 (take 16 (drop at from)) w)
+abbrev invariant-loop-w : tie.invariant-loop-w
+invariant-loop-w from at words₀ w₀ words w = (w ≤ 16) × (length words ≡ 16) × (words ≡ paste (replicate 16 0) 0 (take 16 (drop at from)) w)
 
-abbrev decreases-loop : tie.decreases-loop
-decreases-loop from at words₀ w₀ words w = 16 - w
+abbrev decreases-loop-w : tie.decreases-loop-w
+decreases-loop-w from at words₀ w₀ words w = 16 - w
 
 pub label_words_spec : {M : Type 1} → statement M
 label_words_spec =
     tie.close
     (tie.spec
-    invariant-loop
-    decreases-loop
+    invariant-loop-w
+    decreases-loop-w
     (λ c. search rules)
     (λ c. search rules)
     (λ c. search rules)

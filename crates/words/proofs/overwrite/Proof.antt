@@ -8,18 +8,18 @@ use Rattle.words.proofs.Words.{over_more, over_all}
 use Rattle.words.proofs.overwrite.Statement.{statement}
 use Rattle.words.proofs.overwrite.Tie as tie
 
-abbrev invariant-loop : tie.invariant-loop
-invariant-loop words₀ from i₀ words i = (i ≤ length from) × (length words ≡ length words₀) × (words ≡ take i from ++ drop i words₀)
+abbrev invariant-loop-i : tie.invariant-loop-i
+invariant-loop-i words₀ from i₀ words i = (i ≤ length from) × (length words ≡ length words₀) × (words ≡ take i from ++ drop i words₀)
 
-abbrev decreases-loop : tie.decreases-loop
-decreases-loop words₀ from i₀ words i = length from - i
+abbrev decreases-loop-i : tie.decreases-loop-i
+decreases-loop-i words₀ from i₀ words i = length from - i
 
 pub overwrite_spec : {M : Type 1} → statement M
 overwrite_spec =
     tie.close
     (tie.spec
-    invariant-loop
-    decreases-loop
+    invariant-loop-i
+    decreases-loop-i
     (λ c. search rules)
     (λ c. search rules)
     (λ c. search rules)

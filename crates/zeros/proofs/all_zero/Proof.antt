@@ -11,18 +11,18 @@ use Rattle.basics.proofs.Scans.{zeros_on, zeros_end}
 use Rattle.zeros.proofs.all_zero.Statement.{statement}
 use Rattle.zeros.proofs.all_zero.Tie as tie
 
-abbrev invariant-loop : tie.invariant-loop
-invariant-loop s any₀ i₀ any i = (i ≤ length s) × (all is_zero s ≡ (eqb any 0 && all is_zero (drop i s)))
+abbrev invariant-loop-i : tie.invariant-loop-i
+invariant-loop-i s any₀ i₀ any i = (i ≤ length s) × (all is_zero s ≡ (eqb any 0 && all is_zero (drop i s)))
 
-abbrev decreases-loop : tie.decreases-loop
-decreases-loop s any₀ i₀ any i = length s - i
+abbrev decreases-loop-i : tie.decreases-loop-i
+decreases-loop-i s any₀ i₀ any i = length s - i
 
 pub all_zero_spec : {M : Type 1} → statement M
 all_zero_spec =
     tie.close
     (tie.spec
-    invariant-loop
-    decreases-loop
+    invariant-loop-i
+    decreases-loop-i
     (λ c. search rules)
     (λ c. search rules)
     (λ c. search rules)
