@@ -22,15 +22,15 @@ decreases-loop-j table lengths label s names₀ j₀ names j = length label - j
 
 -- a name fits `usize`
 name_fits_usize : tie.Need-overflow_cast-parent invariant-loop-j decreases-loop-j
-name_fits_usize c-1 = Fits-widen tt (c-1.slice_known-in-loop-j-1.given _)
+name_fits_usize c = Fits-widen tt (c.slice_known-in-loop-j-1.given _)
 
 -- a component that leads nowhere ends the loop, and nothing is told of the names
 clue_empty : tie.Need-returns-in_default invariant-loop-j decreases-loop-j
-clue_empty c-1 = (search (lead_stuck, rules), (search rules, λ e. absurd (subst T (sym e) tt)))
+clue_empty c = (search (lead_stuck, rules), (search rules, λ e. absurd (subst T (sym e) tt)))
 
 -- behind the last component the names are those along the label
 led_to_the_end : tie.Need-returns invariant-loop-j decreases-loop-j
-led_to_the_end c-1 = (search (lead_end, rules), (search rules, λ e. search (lead_along, rules)))
+led_to_the_end c = (search (lead_end, rules), (search rules, λ e. search (lead_along, rules)))
 
 pub lead_on_spec : {M : Type 1} → statement M
 lead_on_spec =
@@ -38,20 +38,20 @@ lead_on_spec =
     (tie.spec
     invariant-loop-j
     decreases-loop-j
-    (λ c-1. search rules)
-    (λ c-1. search rules)
+    (λ c. search rules)
+    (λ c. search rules)
     name_fits_usize
-    (λ c-1 κs. search rules)
-    (λ c-1. search rules)
-    (λ c-1. search rules)
-    (λ c-1 κs. search (length_is, rules))
-    (λ c-1. search rules)
-    (λ c-1. search rules)
-    (λ c-1. search rules)
+    (λ c κs. search rules)
+    (λ c. search rules)
+    (λ c. search rules)
+    (λ c κs. search (length_is, rules))
+    (λ c. search rules)
+    (λ c. search rules)
+    (λ c. search rules)
     clue_empty
-    (λ c-1. search rules)
-    (λ c-1. search rules)
-    (λ c-1. search rules)
-    (λ c-1. search (lead_next, rules))
-    (λ c-1. search rules)
+    (λ c. search rules)
+    (λ c. search rules)
+    (λ c. search rules)
+    (λ c. search (lead_next, rules))
+    (λ c. search rules)
     led_to_the_end)

@@ -12,15 +12,15 @@ use Rattle.match_stream_checks.proofs.check_stream.Statement.{statement}
 use Rattle.match_stream_checks.proofs.check_stream.Tie as tie
 
 abbrev invariant-loop-i : tie.invariant-loop-i
-invariant-loop-i table lengths root want base stream shares₀ paths₀ largest-1 names₀ i₀ shares paths-1 names-1 i =
+invariant-loop-i table lengths root want base stream shares₀ paths₀ largest names₀ i₀ shares paths names i =
     (i ≤ length shares₀)
     × (length shares ≡ length shares₀)
-    × (length paths-1 ≡ length paths₀)
-    × (length names-1 ≡ label_size)
-    × Reading (clues_of table) root want base (length shares₀) stream i names-1 shares paths-1
+    × (length paths ≡ length paths₀)
+    × (length names ≡ label_size)
+    × Reading (clues_of table) root want base (length shares₀) stream i names shares paths
 
 abbrev decreases-loop-i : tie.decreases-loop-i
-decreases-loop-i table lengths root want base stream shares₀ paths₀ largest-1 names₀ i₀ shares paths-1 names-1 i = length shares₀ - i
+decreases-loop-i table lengths root want base stream shares₀ paths₀ largest names₀ i₀ shares paths names i = length shares₀ - i
 
 -- the turn's start, with the invariant, and the answer for its label: each is found by its type
 abbrev Turn : Type 0

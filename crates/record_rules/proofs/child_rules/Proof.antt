@@ -7,7 +7,7 @@ use Rattle.record_rules.proofs.child_rules.Statement.{statement}
 use Rattle.record_rules.proofs.child_rules.Tie as tie
 
 -- what a record shares, and one component more, fit `usize`
-shared_fits_usize : tie.Need-overflow-add-if2
+shared_fits_usize : tie.Need-overflow_add-s
 shared_fits_usize c = Fits-under _ _ 17 (search (shared_few, rules)) tt
 
 pub child_rules_spec : {M : Type 1} → statement M

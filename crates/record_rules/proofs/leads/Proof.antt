@@ -8,9 +8,9 @@ pub leads_spec : {M : Type 1} → statement M
 leads_spec =
     tie.close
     (tie.spec
-    (λ c-1 κs. search rules)
-    (λ c-1. search rules)
-    (λ c-1. search rules)
-    (λ c-1. search (leads_nowhere, rules))
-    (λ c-1. search rules)
-    (λ c-1. search (leads_name, rules)))
+    (λ c κs. search rules)
+    (λ c. search rules)
+    (λ c. search rules)
+    (λ c. search (leads_nowhere, rules))
+    (λ c. search rules)
+    (λ c. search (leads_name, rules)))

@@ -9,17 +9,17 @@ use Rattle.texts.proofs.put_label.Statement.{statement}
 use Rattle.texts.proofs.put_label.Tie as tie
 
 abbrev invariant-loop-i : tie.invariant-loop-i
-invariant-loop-i text₀ at words depth end₀ i₀ text-1 end i = (i ≤ get_or words 0 0) × Pending end₀ (dotted words 1) text₀ end (dotted words i) text-1
+invariant-loop-i text₀ at words depth end₀ i₀ text end i = (i ≤ get_or words 0 0) × Pending end₀ (dotted words 1) text₀ end (dotted words i) text
 
 abbrev decreases-loop-i : tie.decreases-loop-i
-decreases-loop-i text₀ at words depth end₀ i₀ text-1 end i = depth - i
+decreases-loop-i text₀ at words depth end₀ i₀ text end i = depth - i
 
 -- a word is a depth that `usize` holds
 depth_fits_lem : tie.Need-overflow_cast-depth invariant-loop-i decreases-loop-i
 depth_fits_lem c = Fits-widen tt (c.shared_slice_known-2-1.given _)
 
 -- the first component is a number that `usize` holds
-first_fits : tie.Need-overflow-cast-put-decimal invariant-loop-i decreases-loop-i
+first_fits : tie.Need-overflow_cast-words invariant-loop-i decreases-loop-i
 first_fits c = Fits-widen tt (c.shared_slice_known-3-1.given _)
 
 -- a later component is a number that `usize` holds

@@ -8,10 +8,10 @@ use Rattle.texts.proofs.put_match.Statement.{statement}
 use Rattle.texts.proofs.put_match.Tie as tie
 
 abbrev invariant-loop-i : tie.invariant-loop-i
-invariant-loop-i text₀ at words k end₀ i₀ text-1 end i = (i ≤ k) × Pending end₀ (spaced k words 1) text₀ end (spaced k words i) text-1
+invariant-loop-i text₀ at words k end₀ i₀ text end i = (i ≤ k) × Pending end₀ (spaced k words 1) text₀ end (spaced k words i) text
 
 abbrev decreases-loop-i : tie.decreases-loop-i
-decreases-loop-i text₀ at words k end₀ i₀ text-1 end i = k - i
+decreases-loop-i text₀ at words k end₀ i₀ text end i = k - i
 
 pub put_match_spec : {M : Type 1} → statement M
 put_match_spec =

@@ -10,10 +10,10 @@ use Rattle.texts.proofs.put_matches.Statement.{statement}
 use Rattle.texts.proofs.put_matches.Tie as tie
 
 abbrev invariant-loop-m : tie.invariant-loop-m
-invariant-loop-m words count k text₀ end₀ m₀ text-1 end m = (m ≤ count) × Pending 0 (matches_text (matches_in k count words)) text₀ end (lines k count words m) text-1
+invariant-loop-m words count k text₀ end₀ m₀ text end m = (m ≤ count) × Pending 0 (matches_text (matches_in k count words)) text₀ end (lines k count words m) text
 
 abbrev decreases-loop-m : tie.decreases-loop-m
-decreases-loop-m words count k text₀ end₀ m₀ text-1 end m = count - m
+decreases-loop-m words count k text₀ end₀ m₀ text end m = count - m
 
 pub put_matches_spec : {M : Type 1} → statement M
 put_matches_spec =

@@ -6,7 +6,7 @@ use Rattle.texts.proofs.put_number.Statement.{statement}
 use Rattle.texts.proofs.put_number.Tie as tie
 
 pub put_number_spec : {M : Type 1} → statement M
-unfolding text-1
+unfolding text
 put_number_spec =
     tie.close
     (tie.spec
