@@ -14,18 +14,18 @@ use Rattle.soundness.proofs.first_fault.Statement.{statement}
 use Rattle.soundness.proofs.first_fault.Tie as tie
 
 abbrev invariant-loop-w : tie.invariant-loop-w
-invariant-loop-w table lengths store count found₀ unused-1 parents r at depth s w₀ found w =
+invariant-loop-w table lengths store count found₀ unused parents r at depth s w₀ found w =
     (found ≡ soundness.Sound) × Tested (clues_of table) count store parents r w
 
 abbrev decreases-loop-w : tie.decreases-loop-w
-decreases-loop-w table lengths store count found₀ unused-1 parents r at depth s w₀ found w = depth + 1 - w
+decreases-loop-w table lengths store count found₀ unused parents r at depth s w₀ found w = depth + 1 - w
 
 abbrev invariant-records : tie.invariant-records
-invariant-records table lengths store count found₀ unused-1 parents₀ r₀ found parents r =
+invariant-records table lengths store count found₀ unused parents₀ r₀ found parents r =
     (r ≤ count) × (found ≡ soundness.Sound) × Scanned (clues_of table) count store parents r
 
 abbrev decreases-records : tie.decreases-records
-decreases-records table lengths store count found₀ unused-1 parents₀ r₀ found parents r = count - r
+decreases-records table lengths store count found₀ unused parents₀ r₀ found parents r = count - r
 
 -- a word is a depth that `usize` holds
 depth_fits_usize : tie.Need-overflow_cast-depth invariant-loop-w decreases-loop-w invariant-records decreases-records
@@ -60,8 +60,8 @@ record_scanned : tie.Need-records-preserved invariant-loop-w decreases-loop-w in
 record_scanned c =
     let at : Loop = search in
     let rest : Rest = search in
-    let rules : Rules = search in
-    let known = tested_kept _ _ _ _ _ at.loop-w.invariant.1 rest.rest_zero.ensures (search rules) (search rules) rules.record_rules-check.ensures in
+    let tested : Rules = search in
+    let known = tested_kept _ _ _ _ _ at.loop-w.invariant.1 rest.rest_zero.ensures (search rules) (search rules) tested.record_rules-check.ensures in
     (search rules, search rules, known (search rules))
 
 -- a rule that the record breaks is what the function answers
@@ -69,8 +69,8 @@ rule_broken : tie.Need-returns-in-Broken invariant-loop-w decreases-loop-w invar
 rule_broken c =
     let at : Loop = search in
     let rest : Rest = search in
-    let rules : Rules = search in
-    tested_rule _ _ _ _ _ at.loop-w.invariant.1 rest.rest_zero.ensures (search rules) (search rules) rules.record_rules-check.ensures (search rules)
+    let tested : Rules = search in
+    tested_rule _ _ _ _ _ at.loop-w.invariant.1 rest.rest_zero.ensures (search rules) (search rules) tested.record_rules-check.ensures (search rules)
 
 pub first_fault_spec : {M : Type 1} → statement M
 first_fault_spec =
