@@ -6,7 +6,7 @@ use Rattle.deletions.proofs.delete.Statement.{statement}
 use Rattle.deletions.proofs.delete.Tie as tie
 
 -- the store can be searched, and the record that was found has the label
-record_known : tie.Need-remove-subtree-requires
+record_known : tie.Need-remove_subtree-requires
 record_known c κs = (search (call_searchable, rules), search (found_at, rules))
 
 pub delete_spec : {M : Type 1} → statement M

@@ -6,7 +6,7 @@ use Rattle.entries.proofs.enter.Statement.{statement}
 use Rattle.entries.proofs.enter.Tie as tie
 
 -- the store can be searched, the words are a label, and the record that was found has it
-parent_known : tie.Need-enter-below-requires
+parent_known : tie.Need-enter_below-requires
 parent_known c κs = (search (call_searchable, rules), search (call_label, rules), search (found_label, rules))
 
 pub enter_spec : {M : Type 1} → statement M

@@ -6,8 +6,8 @@ use Rattle.entries.proofs.number_below.Statement.{statement}
 use Rattle.entries.proofs.number_below.Tie as tie
 
 -- the word of the parent's name fits `usize`
-parent_fits_usize : tie.Need-overflow-cast-parent
-parent_fits_usize c = Fits-widen tt (c.shared-slice-known2.given _)
+parent_fits_usize : tie.Need-overflow_cast-parent
+parent_fits_usize c = Fits-widen tt (c.shared_slice_known-2-1.given _)
 
 pub number_below_spec : {M : Type 1} → statement M
 number_below_spec =
