@@ -16,7 +16,7 @@ use Rattle.naming.specs.Names.{Clues}
 use Rattle.labelling.specs.Labels.{Label, before, within, same, label_of}
 use Rattle.storage.specs.Store.{Element, ahead, read_element, records, elements, find, sound_check}
 use Rattle.store_calls.specs.Updates.{placed, without}
-use Rattle.basics.proofs.Tests.{or_iff, and_iff, decide, is_true, is_false, Tells, passes as told, fails as untold}
+use Rattle.basics.proofs.Tests.{or_iff, and_iff, decide, Tells, passes as told, fails as untold}
 use Rattle.basics.proofs.Lists.{here, member_at}
 use Rattle.basics.proofs.Leading.{leading_zero, leading_under, leading_stops, leading_reaches}
 use Rattle.labelling.proofs.LabelOrder.{before_order, before_one_way, before_extend, extend_before, within_iff, within_self, same?}

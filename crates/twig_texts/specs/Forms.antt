@@ -1,8 +1,8 @@
 -- The forms of a twig's text: which texts there are, however many names they have, and the twig that a text writes down.
-use Rattle.std.specs.Prelude.{◌≡◌, ◌⊎◌, cond, List, [], ◌∷◌, ◌++◌, ℕ, suc, ◌+◌, ◌≤◌, ◌<◌, length, get_or, eqb}
+use Rattle.std.specs.Prelude.{◌≡◌, ◌⊎◌, cond, List, [], ◌∷◌, ◌++◌, ℕ, suc, ◌+◌, ◌≤◌, length, eqb}
 use Rattle.basics.specs.Limits.{max_name, any_name, no_parent}
 use Rattle.basics.specs.Texts.{text, decimal}
-use Rattle.patterns.specs.Twigs.{Node, Twig, child_edge, descendant_edge}
+use Rattle.patterns.specs.Twigs.{Twig, child_edge, descendant_edge}
 
 -- the byte that begins a step, "/"
 abbrev pub slash : ℕ

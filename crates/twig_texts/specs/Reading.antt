@@ -5,7 +5,7 @@ use Rattle.basics.specs.Basics.{elim?, joined, over}
 use Rattle.basics.specs.Limits.{max_name, any_name, no_parent, node_size, max_twig}
 use Rattle.basics.specs.Refusals.{Refusal, Reply, value, refused, bad_text, ninth_name}
 use Rattle.basics.specs.Texts.{zero_digit}
-use Rattle.patterns.specs.Twigs.{Node, Twig, child_edge, descendant_edge}
+use Rattle.patterns.specs.Twigs.{Twig, child_edge, descendant_edge}
 use Rattle.twig_texts.specs.Forms.{slash, star, opening, closing}
 
 -- what stands before the next byte

@@ -1,6 +1,5 @@
 -- `label_words::wide` meets its contract: a word has sixteen digits.
 use borrow.Author.Rules.{rules}
-use mir.Facts.{Fits-widen}
 use Rattle.label_words.proofs.wide.Statement.{statement}
 use Rattle.label_words.proofs.wide.Tie as tie
 

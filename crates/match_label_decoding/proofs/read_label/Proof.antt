@@ -1,7 +1,6 @@
 -- `match_label_decoding::read_label` meets its contract: the words are a label, it stands in order, its clues lead on
 -- and its name is asked for, tested in turn.
 use borrow.Author.Rules.{rules}
-use mir.Facts.{Fits-widen}
 use Rattle.labels.proofs.Steps.{known_label}
 use Rattle.match_label_decoding.proofs.Links.{share_in, share_along, link_out, link_label, link_later, link_stuck, link_name, link_stands, link_along, link_shares}
 use Rattle.match_label_decoding.proofs.read_label.Statement.{statement}
