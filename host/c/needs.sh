@@ -27,17 +27,19 @@ library=target/staticlib/libhost.a
 library_crates='host_tables host_checks host_labels host_stores host_lists'
 need_library() {
     local crate log=target/log/staticlib.log
-    [ -f "$library" ] && [ -z "$(find crates crates.txt -newer "$library" -print -quit)" ] && return
+    # What rt leaves in a crate's out/ is no source.
+    [ -f "$library" ] && [ -z "$(find crates.txt crates/*/src crates/*/specs crates/*/proofs -newer "$library" -print -quit)" ] &&
+        return
     command -v rt >/dev/null || stop "$library is missing or old, and there is no rt to build it"
     need ar binutils
-    mkdir -p target/log
+    mkdir -p target/log "${library%/*}"
     rm -f "$library"
     for crate in $library_crates; do
-        rt staticlib "$crate" >"$log" 2>&1 || { tail -20 "$log" >&2; stop "rt staticlib $crate has failed"; }
+        (cd "crates/$crate" && rt lib) >"$log" 2>&1 || { tail -20 "$log" >&2; stop "rt lib has failed in crates/$crate"; }
     done
     {
         echo "create $library"
-        printf "addlib ${library%/*}/lib%s.a\n" $library_crates
+        for crate in $library_crates; do echo "addlib crates/$crate/out/lib$crate.a"; done
         echo save
     } | ar -M >"$log" 2>&1 || { cat "$log" >&2; stop "$library can't be joined"; }
 }
