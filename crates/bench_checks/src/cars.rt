@@ -5,6 +5,7 @@ use guards::{number, word};
 use labels::Label;
 use prefixes::front;
 use records::Store;
+use std::io;
 use suffixes::behind;
 use wrapping::half;
 
@@ -50,14 +51,14 @@ fn within(words: &[u16], count: usize, x: u16) -> usize {
 }
 
 // held COUNT CAR X: the records with the payload of a car, and those with the label X or below it.
-pub fn held(row: &[usize], words: &[u16]) {
+pub fn held(rt: &impl Print, row: &[usize], words: &[u16]) -> io::Result<()> {
     let count = number(row, 1);
-    say_number(standing(words, count, half(row, 2), words));
-    say(b", with its label or below: ");
-    say_number(within(words, count, half(row, 3)));
+    say_number(rt, standing(words, count, half(row, 2), words))?;
+    say(rt, b", with its label or below: ")?;
+    say_number(rt, within(words, count, half(row, 3)))
 }
 
 // yet COUNT CAR: the records of a car whose labels stood before the last deletion.
-pub fn yet(row: &[usize], words: &[u16], was: &[u16]) {
-    say_number(standing(words, number(row, 1), half(row, 2), was));
+pub fn yet(rt: &impl Print, row: &[usize], words: &[u16], was: &[u16]) -> io::Result<()> {
+    say_number(rt, standing(words, number(row, 1), half(row, 2), was))
 }

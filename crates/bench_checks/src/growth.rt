@@ -9,6 +9,7 @@ use deletions::delete;
 use entries::enter;
 use guards::number;
 use prefixes::{copy, front, front_mut};
+use std::io;
 use wrapping::{half, octet, sum};
 
 // What is shown of the entries: the last label, the first and the last, or all of them.
@@ -47,9 +48,16 @@ fn mark_of(row: &[usize], entered: usize) -> u16 {
 }
 
 // An entry of a parent and a name, if the row has them; the count after it. Its payload is its mark and the name.
-fn add_one(row: &[usize], at: usize, words: &mut [u16], start: usize, count: usize) -> usize {
+fn add_one(
+    rt: &impl Print,
+    row: &[usize],
+    at: usize,
+    words: &mut [u16],
+    start: usize,
+    count: usize,
+) -> io::Result<usize> {
     if number(row, 0) <= at {
-        return count;
+        return Ok(count);
     }
     let mut parent = [0u16; 16];
     let up = parent_at(number(row, at), start, count);
@@ -66,42 +74,49 @@ fn add_one(row: &[usize], at: usize, words: &mut [u16], start: usize, count: usi
     );
     let label = e.label;
     if number(row, 1) == ALL {
-        say(b" ");
-        dotted(&label);
+        say(rt, b" ")?;
+        dotted(rt, &label)?;
     }
-    e.count
+    Ok(e.count)
 }
 
 // The entries of a row; the count after them.
-fn add_all(row: &[usize], words: &mut [u16], start: usize) -> usize {
+fn add_all(rt: &impl Print, row: &[usize], words: &mut [u16], start: usize) -> io::Result<usize> {
     let mut count = start;
     let mut at: usize = PAIRS;
     while at < ROW {
-        count = add_one(row, at, words, start, count);
+        count = add_one(rt, row, at, words, start, count)?;
         at += 2;
     }
-    count
+    Ok(count)
 }
 
 // What is shown behind the entries.
-fn summary(shown: usize, words: &[u16], first: usize, last: usize, count: usize) {
+fn summary(
+    rt: &impl Print,
+    shown: usize,
+    words: &[u16],
+    first: usize,
+    last: usize,
+    count: usize,
+) -> io::Result<()> {
     if shown == ALL {
-        return;
+        return Ok(());
     }
     if shown == FIRST_AND_LAST {
-        dotted(label_of(words, first));
-        say(b" to ");
+        dotted(rt, label_of(words, first))?;
+        say(rt, b" to ")?;
     }
     if LAST <= shown {
-        dotted(label_of(words, last));
-        say(b", ");
+        dotted(rt, label_of(words, last))?;
+        say(rt, b", ")?;
     }
-    say(b"count ");
-    say_number(count);
+    say(rt, b"count ")?;
+    say_number(rt, count)
 }
 
 // add SHOWN TABLE WORDS COUNT TIMES MARK STEP PARENT NAME..: the entries of a row, some times.
-pub fn add(row: &[usize], words: &mut [u16]) {
+pub fn add(rt: &impl Print, row: &[usize], words: &mut [u16]) -> io::Result<()> {
     let start = number(row, 4);
     let times = number(row, 5);
     let mut last = start;
@@ -109,14 +124,14 @@ pub fn add(row: &[usize], words: &mut [u16]) {
     let mut i: usize = 0;
     while i < times {
         last = count;
-        count = add_all(row, words, count);
+        count = add_all(rt, row, words, count)?;
         i += 1;
     }
-    summary(number(row, 1), words, start, last, count);
+    summary(rt, number(row, 1), words, start, last, count)
 }
 
 // wipe WORDS COUNT VEHICLES OLD: vehicles deleted from 0 on, and what is left in the words.
-pub fn wipe(row: &[usize], words: &mut [u16]) {
+pub fn wipe(rt: &impl Print, row: &[usize], words: &mut [u16]) -> io::Result<()> {
     let many = half(row, 3);
     let len = number(row, 1);
     let mut count = number(row, 2);
@@ -127,10 +142,10 @@ pub fn wipe(row: &[usize], words: &mut [u16]) {
         count = c.count;
         v += 1;
     }
-    say(b"count ");
-    say_number(count);
-    say(b", words that are 0: ");
-    say_number(count_of(front(words, len), 0));
-    say(b", words as before the first use: ");
-    say_number(count_of(front(words, len), half(row, 4)));
+    say(rt, b"count ")?;
+    say_number(rt, count)?;
+    say(rt, b", words that are 0: ")?;
+    say_number(rt, count_of(front(words, len), 0))?;
+    say(rt, b", words as before the first use: ")?;
+    say_number(rt, count_of(front(words, len), half(row, 4)))
 }

@@ -9,87 +9,108 @@ use crate::stores::{begin, check, deletion, entry, records, unchanged, value};
 use case_lines::{ROW, bar_of, read_row};
 use guards::byte;
 use prefixes::front_bytes;
+use std::io;
 use suffixes::behind_bytes;
 use wrapping::sum;
 
 const NEWLINE: u8 = 10;
 
 // The calls that take no store.
-fn call_alone(letter: u8, row: &[usize]) {
+fn call_alone(rt: &impl Print, letter: u8, row: &[usize]) -> io::Result<()> {
     match letter {
-        b'b' => below(row),
-        b'f' => file(row),
-        b'g' => given(row),
-        b'k' => kin(row),
-        b'l' => label(row),
-        b'o' => order(row),
-        b'p' => path(row),
-        b'q' => query(row),
-        b't' => table_case(row),
-        _ => (),
+        b'b' => below(rt, row),
+        b'f' => file(rt, row),
+        b'g' => given(rt, row),
+        b'k' => kin(rt, row),
+        b'l' => label(rt, row),
+        b'o' => order(rt, row),
+        b'p' => path(rt, row),
+        b'q' => query(rt, row),
+        b't' => table_case(rt, row),
+        _ => Ok(()),
     }
 }
 
 // The calls that read the store.
-fn call_reading(letter: u8, row: &[usize], words: &[u16], was: &[u16]) {
+fn call_reading(
+    rt: &impl Print,
+    letter: u8,
+    row: &[usize],
+    words: &[u16],
+    was: &[u16],
+) -> io::Result<()> {
     match letter {
-        b'c' => check(row, words),
-        b'h' => held(row, words),
-        b'i' => items(row, words),
-        b'm' => matching(row, words),
-        b'r' => records(row, words),
-        b's' => stream(row, words),
-        b'u' => unchanged(row, words),
-        b'y' => yet(row, words, was),
-        _ => (),
+        b'c' => check(rt, row, words),
+        b'h' => held(rt, row, words),
+        b'i' => items(rt, row, words),
+        b'm' => matching(rt, row, words),
+        b'r' => records(rt, row, words),
+        b's' => stream(rt, row, words),
+        b'u' => unchanged(rt, row, words),
+        b'y' => yet(rt, row, words, was),
+        _ => Ok(()),
     }
 }
 
 // The calls that write to the store; a deletion leaves in others what the words were.
-fn call_writing(letter: u8, row: &[usize], words: &mut [u16], was: &mut [u16]) {
+fn call_writing(
+    rt: &impl Print,
+    letter: u8,
+    row: &[usize],
+    words: &mut [u16],
+    was: &mut [u16],
+) -> io::Result<()> {
     match letter {
-        b'a' => add(row, words),
-        b'd' => deletion(row, words, was),
-        b'e' => entry(row, words),
-        b'n' => begin(row, words),
-        b'v' => value(row, words),
-        b'w' => wipe(row, words),
-        _ => (),
+        b'a' => add(rt, row, words),
+        b'd' => deletion(rt, row, words, was),
+        b'e' => entry(rt, row, words),
+        b'n' => begin(rt, row, words),
+        b'v' => value(rt, row, words),
+        b'w' => wipe(rt, row, words),
+        _ => Ok(()),
     }
 }
 
 // A line, if it has a bar.
-fn line(line: &[u8], words: &mut [u16], was: &mut [u16]) {
+fn line(rt: &impl Print, line: &[u8], words: &mut [u16], was: &mut [u16]) -> io::Result<()> {
     let bar = bar_of(line);
     if bar == line.len() {
-        return;
+        return Ok(());
     }
     let mut row = [0usize; ROW];
     read_row(line, bar, &mut row);
     let letter = byte(line, sum(bar, 1));
-    say(front_bytes(line, bar));
-    call_alone(letter, &row);
-    call_reading(letter, &row, words, was);
-    call_writing(letter, &row, words, was);
-    say(b"\n");
+    say(rt, front_bytes(line, bar))?;
+    call_alone(rt, letter, &row)?;
+    call_reading(rt, letter, &row, words, was)?;
+    call_writing(rt, letter, &row, words, was)?;
+    say(rt, b"\n")
 }
 
 // The line that ends at a place, if one does; where the next one begins.
-fn run(text: &[u8], start: usize, end: usize, words: &mut [u16], was: &mut [u16]) -> usize {
+fn run(
+    rt: &impl Print,
+    text: &[u8],
+    start: usize,
+    end: usize,
+    words: &mut [u16],
+    was: &mut [u16],
+) -> io::Result<usize> {
     if byte(text, end) != NEWLINE {
-        return start;
+        return Ok(start);
     }
     let len = std::num::wrapping_sub_usize(end, start);
-    line(front_bytes(behind_bytes(text, start), len), words, was);
-    sum(end, 1)
+    line(rt, front_bytes(behind_bytes(text, start), len), words, was)?;
+    Ok(sum(end, 1))
 }
 
 // Every line, over one store.
-pub fn lines(text: &[u8], words: &mut [u16], was: &mut [u16]) {
+pub fn lines(rt: &impl Print, text: &[u8], words: &mut [u16], was: &mut [u16]) -> io::Result<()> {
     let mut start: usize = 0;
     let mut i: usize = 0;
     while i < text.len() {
-        start = run(text, start, i, words, was);
+        start = run(rt, text, start, i, words, was)?;
         i += 1;
     }
+    Ok(())
 }

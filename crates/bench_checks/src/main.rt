@@ -13,12 +13,30 @@ mod stores;
 
 use lines::lines;
 use prefixes::front_bytes;
+use std::io;
+use std::io::Read;
 use stores::LARGEST;
 
-fn main() {
-    let mut text = io::large_buffer();
-    let n = io::read_full(0, &mut text);
+// The most bytes of the cases that are read.
+const CASES: usize = 65536;
+
+// The bytes of a reader, put at the front of a buffer: all of them, or as many as there is room for.
+fn read_full(reader: &mut impl Read, bytes: &mut [u8]) -> io::Result<usize> {
+    let mut n: usize = 0;
+    while n < bytes.len() {
+        let more = reader.read(&mut bytes[n..])?;
+        if more == 0 {
+            return Ok(n);
+        }
+        n += more;
+    }
+    Ok(n)
+}
+
+fn main(rt: HostRuntime) -> io::Result<()> {
+    let mut text = [0u8; CASES];
+    let n = read_full(&mut rt.reader(), &mut text)?;
     let mut words = [0u16; LARGEST];
     let mut was = [0u16; LARGEST];
-    lines(front_bytes(&text, n), &mut words, &mut was);
+    lines(&rt, front_bytes(&text, n), &mut words, &mut was)
 }

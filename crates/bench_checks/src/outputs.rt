@@ -8,6 +8,7 @@ use labels::Label;
 use matching::match_twig;
 use prefixes::{front, front_bytes, front_mut, front_numbers};
 use refusals::Listing;
+use std::io;
 use suffixes::{behind, behind_mut};
 use wrapping::{half, octet};
 
@@ -48,27 +49,27 @@ fn cut_by(row: &[usize], words: &[u16], out: &mut [u16]) -> Listing {
 }
 
 // stream TABLE WORDS COUNT NAME ROOM: cutting.
-pub fn stream(row: &[usize], words: &[u16]) {
+pub fn stream(rt: &impl Print, row: &[usize], words: &[u16]) -> io::Result<()> {
     let was = [OLD; LABEL_ROOM];
     let mut out = [OLD; LABEL_ROOM];
     let l = cut_by(row, words, &mut out);
     let v = l.verdict;
-    outcome(v, l.count, &out, &was);
+    outcome(rt, v, l.count, &out, &was)
 }
 
 // items TABLE WORDS COUNT NAME ROOM: the labels that cutting wrote, and how many words of the output are as they were.
-pub fn items(row: &[usize], words: &[u16]) {
+pub fn items(rt: &impl Print, row: &[usize], words: &[u16]) -> io::Result<()> {
     let mut out = [OLD; LABEL_ROOM];
     let l = cut_by(row, words, &mut out);
     let count = l.count;
     let mut i: usize = 0;
     while i < count {
-        say(b" ");
-        dotted(behind(&out, i % LABEL_ROOM * Label::WORDS));
+        say(rt, b" ")?;
+        dotted(rt, behind(&out, i % LABEL_ROOM * Label::WORDS))?;
         i += 1;
     }
-    say(b", words as they were: ");
-    say_number(count_of(&out, OLD));
+    say(rt, b", words as they were: ")?;
+    say_number(rt, count_of(&out, OLD))
 }
 
 // The twig with the byte changed that a row tells.
@@ -104,10 +105,10 @@ fn match_by(row: &[usize], words: &[u16], out: &mut [u16]) -> Listing {
 
 // match TABLE ROOT LENGTH AT BYTE AT WORD ROOM COUNT..: matching with one byte of the twig and one word of the streams
 // changed.
-pub fn matching(row: &[usize], words: &[u16]) {
+pub fn matching(rt: &impl Print, row: &[usize], words: &[u16]) -> io::Result<()> {
     let was = [OLD; MATCH_ROOM];
     let mut out = [OLD; MATCH_ROOM];
     let l = match_by(row, words, &mut out);
     let v = l.verdict;
-    outcome(v, l.count, &out, &was);
+    outcome(rt, v, l.count, &out, &was)
 }

@@ -1,51 +1,53 @@
 // What the checks print.
 use guards::word;
 use refusals::{Refusal, Verdict};
+use std::io;
 use wrapping::sum;
 
 // Text as it is.
-pub fn say(text: &[u8]) {
-    io::write_all(1, text);
+pub fn say(rt: &impl Print, text: &[u8]) -> io::Result<()> {
+    rt.write_all(text)
 }
 
 // A number in decimal.
-pub fn say_number(n: usize) {
-    io::print_decimal(1, n as u64);
+pub fn say_number(rt: &impl Print, n: usize) -> io::Result<()> {
+    rt.print(n)
 }
 
 // A refusal, as "refused 16 at 4".
-pub fn refusal(r: Refusal) {
-    say(b"refused ");
-    say_number(r.number as usize);
-    say(b" at ");
-    say_number(r.place);
+pub fn refusal(rt: &impl Print, r: Refusal) -> io::Result<()> {
+    say(rt, b"refused ")?;
+    say_number(rt, r.number as usize)?;
+    say(rt, b" at ")?;
+    say_number(rt, r.place)
 }
 
 // What a check answered.
-pub fn verdict(v: Verdict) {
+pub fn verdict(rt: &impl Print, v: Verdict) -> io::Result<()> {
     match v {
-        Verdict::Passed => say(b"taken"),
-        Verdict::Refused(r) => refusal(r),
+        Verdict::Passed => say(rt, b"taken"),
+        Verdict::Refused(r) => refusal(rt, r),
     }
 }
 
 // A component with the dot before it.
-fn component(label: &[u16], i: usize) {
+fn component(rt: &impl Print, label: &[u16], i: usize) -> io::Result<()> {
     if 0 < i {
-        say(b".");
+        say(rt, b".")?;
     }
-    say_number(word(label, sum(i, 1)) as usize);
+    say_number(rt, word(label, sum(i, 1)) as usize)
 }
 
 // The components joined by dots, the root as a single dot.
-pub fn dotted(label: &[u16]) {
+pub fn dotted(rt: &impl Print, label: &[u16]) -> io::Result<()> {
     let depth = word(label, 0) as usize;
     if depth == 0 {
-        say(b".");
+        say(rt, b".")?;
     }
     let mut i: usize = 0;
     while i < depth {
-        component(label, i);
+        component(rt, label, i)?;
         i += 1;
     }
+    Ok(())
 }

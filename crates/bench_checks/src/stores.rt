@@ -9,6 +9,7 @@ use new_stores::new_store;
 use prefixes::{copy, front, front_mut};
 use records::Store;
 use refusals::Verdict;
+use std::io;
 use store_checks::check_store;
 use suffixes::behind;
 use wrapping::{half, octet, sum};
@@ -62,38 +63,44 @@ pub fn same(words: &[u16], others: &[u16]) -> bool {
 }
 
 // What a call answered, its count, and whether words are as they were.
-pub fn outcome(v: Verdict, count: usize, words: &[u16], was: &[u16]) {
-    verdict(v);
-    say(b", count ");
-    say_number(count);
+pub fn outcome(
+    rt: &impl Print,
+    v: Verdict,
+    count: usize,
+    words: &[u16],
+    was: &[u16],
+) -> io::Result<()> {
+    verdict(rt, v)?;
+    say(rt, b", count ")?;
+    say_number(rt, count)?;
     if same(words, was) {
-        say(b", untouched");
+        say(rt, b", untouched")
     } else {
-        say(b", changed");
+        say(rt, b", changed")
     }
 }
 
 // new FILLER WORDS ROOT: a new store, over words that are all the same.
-pub fn begin(row: &[usize], words: &mut [u16]) {
+pub fn begin(rt: &impl Print, row: &[usize], words: &mut [u16]) -> io::Result<()> {
     let filling = half(row, 1);
     let was = [filling; LARGEST];
     copy(words, &was);
     let c = new_store(front_mut(words, number(row, 2)), octet(row, 3), PAYLOAD);
     let v = c.verdict;
-    outcome(v, c.count, words, &was);
+    outcome(rt, v, c.count, words, &was)
 }
 
 // A label answered by an entry, and how many of its words are 0.
-fn say_label(label: [u16; 16]) {
-    say(b"label ");
-    dotted(&label);
-    say(b" with ");
-    say_number(count_of(&label, 0));
-    say(b" zeros, ");
+fn say_label(rt: &impl Print, label: [u16; 16]) -> io::Result<()> {
+    say(rt, b"label ")?;
+    dotted(rt, &label)?;
+    say(rt, b" with ")?;
+    say_number(rt, count_of(&label, 0))?;
+    say(rt, b" zeros, ")
 }
 
 // enter TABLE WORDS COUNT NAME LENGTH WORD..: an entry below a label.
-pub fn entry(row: &[usize], words: &mut [u16]) {
+pub fn entry(rt: &impl Print, row: &[usize], words: &mut [u16]) -> io::Result<()> {
     let mut was = [0u16; LARGEST];
     copy(&mut was, words);
     let mut parent = [0u16; 17];
@@ -108,12 +115,17 @@ pub fn entry(row: &[usize], words: &mut [u16]) {
     );
     let v = e.verdict;
     let label = e.label;
-    say_label(label);
-    outcome(v, e.count, words, &was);
+    say_label(rt, label)?;
+    outcome(rt, v, e.count, words, &was)
 }
 
 // delete TABLE WORDS COUNT LENGTH WORD..: a deletion; others keep what the words were.
-pub fn deletion(row: &[usize], words: &mut [u16], was: &mut [u16]) {
+pub fn deletion(
+    rt: &impl Print,
+    row: &[usize],
+    words: &mut [u16],
+    was: &mut [u16],
+) -> io::Result<()> {
     copy(was, words);
     let mut label = [0u16; 17];
     put_words(row, 5, 16, &mut label);
@@ -124,7 +136,7 @@ pub fn deletion(row: &[usize], words: &mut [u16], was: &mut [u16]) {
         front(&label, number(row, 4)),
     );
     let v = c.verdict;
-    outcome(v, c.count, words, was);
+    outcome(rt, v, c.count, words, was)
 }
 
 // A word of a record changed, if the row names it.
@@ -137,7 +149,7 @@ fn change(row: &[usize], at: usize, words: &mut [u16]) {
 }
 
 // check TABLE WORDS COUNT RECORD WORD X..: the check of the store with some words changed.
-pub fn check(row: &[usize], words: &[u16]) {
+pub fn check(rt: &impl Print, row: &[usize], words: &[u16]) -> io::Result<()> {
     let mut changed = [0u16; LARGEST];
     copy(&mut changed, words);
     let mut i: usize = 0;
@@ -146,11 +158,14 @@ pub fn check(row: &[usize], words: &[u16]) {
         i += 1;
     }
     let store = front(&changed, number(row, 2));
-    verdict(check_store(table(number(row, 1)), store, number(row, 3)));
+    verdict(
+        rt,
+        check_store(table(number(row, 1)), store, number(row, 3)),
+    )
 }
 
 // value RECORD WORD X: a word of a record, first put there if the row has it.
-pub fn value(row: &[usize], words: &mut [u16]) {
+pub fn value(rt: &impl Print, row: &[usize], words: &mut [u16]) -> io::Result<()> {
     let at = spot(number(row, 1), number(row, 2));
     let was = word(words, at);
     let x = if number(row, 0) == 3 {
@@ -159,38 +174,39 @@ pub fn value(row: &[usize], words: &mut [u16]) {
         was
     };
     put_word(words, at, x);
-    say_number(word(words, at) as usize);
+    say_number(rt, word(words, at) as usize)
 }
 
 // unchanged WORDS X: how many words are still X.
-pub fn unchanged(row: &[usize], words: &[u16]) {
-    say_number(count_of(front(words, number(row, 1)), half(row, 2)));
+pub fn unchanged(rt: &impl Print, row: &[usize], words: &[u16]) -> io::Result<()> {
+    say_number(rt, count_of(front(words, number(row, 1)), half(row, 2)))
 }
 
 // A word of a record behind what is said of it.
-fn say_word(text: &[u8], words: &[u16], r: usize, w: usize) {
-    say(text);
-    say_number(word(words, spot(r, w)) as usize);
+fn say_word(rt: &impl Print, text: &[u8], words: &[u16], r: usize, w: usize) -> io::Result<()> {
+    say(rt, text)?;
+    say_number(rt, word(words, spot(r, w)) as usize)
 }
 
 // A record, on a line of its own.
-fn record(words: &[u16], r: usize) {
+fn record(rt: &impl Print, words: &[u16], r: usize) -> io::Result<()> {
     if 0 < r {
-        say(b"\n");
+        say(rt, b"\n")?;
     }
-    dotted(behind(words, spot(r, 0)));
-    say_word(b": name ", words, r, Store::NAME);
-    say_word(b" f ", words, r, Store::NEXT);
-    say_word(b" payload ", words, r, Store::PAYLOAD);
-    say_word(b" ", words, r, Store::PAYLOAD + 1);
+    dotted(rt, behind(words, spot(r, 0)))?;
+    say_word(rt, b": name ", words, r, Store::NAME)?;
+    say_word(rt, b" f ", words, r, Store::NEXT)?;
+    say_word(rt, b" payload ", words, r, Store::PAYLOAD)?;
+    say_word(rt, b" ", words, r, Store::PAYLOAD + 1)
 }
 
 // records COUNT: the records in use.
-pub fn records(row: &[usize], words: &[u16]) {
+pub fn records(rt: &impl Print, row: &[usize], words: &[u16]) -> io::Result<()> {
     let count = number(row, 1);
     let mut r: usize = 0;
     while r < count {
-        record(words, r);
+        record(rt, words, r)?;
         r += 1;
     }
+    Ok(())
 }

@@ -1,4 +1,7 @@
 // Files of the folder that the program is run in.
+use std::io::{ErrorKind, Read};
+use std::rt::Files;
+use std::{fs, io};
 
 // What a file gave: how many bytes, or that it is there and cannot be read.
 #[derive(Drop)]
@@ -8,44 +11,42 @@ pub enum Reading {
 }
 
 // Says on standard error why a file cannot be read.
-fn failed(path: &[u8]) -> Reading {
-    os::fail(path);
+fn failed(rt: &impl Eprint, path: &str, error: io::Error) -> Reading {
+    let _ = eprintln!(rt; "{path}: {error}");
     Reading::Failed
 }
 
 // A file that cannot be opened: a missing one counts as empty.
-fn unopened(path: &[u8]) -> Reading {
-    if os::errno() == libc::ENOENT {
+fn unopened(rt: &impl Eprint, path: &str, error: io::Error) -> Reading {
+    if error.kind() == ErrorKind::NotFound {
         return Reading::Bytes(0);
     }
-    failed(path)
+    failed(rt, path, error)
 }
 
-// One more read finds the end of the file, and does not fail.
-fn is_at_end(fd: i32) -> bool {
-    let mut next = [0u8; 1];
-    libc::read(fd, &mut next) == 0
-}
-
-// The bytes of an open file: all of them, or as many as there is room for.
-fn read_open(fd: i32, path: &[u8], bytes: &mut [u8]) -> Reading {
-    let n = io::read_full(fd, bytes);
-    if n == bytes.len() {
-        return Reading::Bytes(n);
+// The bytes of an open file: all of them, or as many as there is room for. A read of none finds the end of the file.
+fn read_open(file: &mut impl Read, bytes: &mut [u8]) -> io::Result<usize> {
+    let mut n: usize = 0;
+    while n < bytes.len() {
+        let more = file.read(&mut bytes[n..])?;
+        if more == 0 {
+            return Ok(n);
+        }
+        n += more;
     }
-    if is_at_end(fd) {
-        return Reading::Bytes(n);
-    }
-    failed(path)
+    Ok(n)
 }
 
 // The bytes of a file, put at the front of a buffer.
-pub fn read_file(path: &[u8], bytes: &mut [u8]) -> Reading {
-    let fd = os::open_read(path);
-    if fd < 0 {
-        return unopened(path);
+pub fn read_file(rt: &(impl Files + Eprint), path: &str, bytes: &mut [u8]) -> Reading {
+    match fs::open(rt, path) {
+        Ok(file) => {
+            let mut file = file;
+            match read_open(&mut file, bytes) {
+                Ok(n) => Reading::Bytes(n),
+                Err(error) => failed(rt, path, error),
+            }
+        }
+        Err(error) => unopened(rt, path, error),
     }
-    let reading = read_open(fd, path, bytes);
-    libc::close(fd);
-    reading
 }

@@ -4,9 +4,9 @@
 mod files;
 
 use files::{Reading, read_file};
-use libc::STDOUT_FILENO;
 use name_files::MAX_FILE;
 use printing::{MAX_BYTES, TEXT_BYTES, print_matches};
+use std::process::ExitCode;
 use twigs::Node;
 
 // Each file is given room for one byte more than it may have, so that a longer one is refused by its length.
@@ -25,30 +25,35 @@ fn front(bytes: &[u8], len: usize) -> &[u8] {
 }
 
 // Prints what the library computes for the bytes of the three files.
-fn print(names: &[u8], store: &[u8], twig: &[u8]) {
+fn print(rt: &(impl Print + Eprint), names: &[u8], store: &[u8], twig: &[u8]) -> ExitCode {
     let mut text = [0u8; TEXT_BYTES];
     let n = print_matches(names, store, twig, &mut text);
-    if !io::write_all(STDOUT_FILENO, front(&text, n)) {
-        os::fail(b"standard output");
+    match Print::write_all(rt, front(&text, n)) {
+        Ok(()) => ExitCode::SUCCESS,
+        Err(error) => {
+            let _ = eprintln!(rt; "standard output: {error}");
+            ExitCode::FAILURE
+        }
     }
 }
 
-fn main() {
+fn main(rt: HostRuntime) -> ExitCode {
     let mut names = [0u8; NAMES_ROOM];
-    let Reading::Bytes(names_len) = read_file(b"names.tab", &mut names) else {
-        return;
+    let Reading::Bytes(names_len) = read_file(&rt, "names.tab", &mut names) else {
+        return ExitCode::FAILURE;
     };
     let mut store = [0u8; STORE_ROOM];
-    let Reading::Bytes(store_len) = read_file(b"store.rec", &mut store) else {
-        return;
+    let Reading::Bytes(store_len) = read_file(&rt, "store.rec", &mut store) else {
+        return ExitCode::FAILURE;
     };
     let mut twig = [0u8; TWIG_ROOM];
-    let Reading::Bytes(twig_len) = read_file(b"twig.rec", &mut twig) else {
-        return;
+    let Reading::Bytes(twig_len) = read_file(&rt, "twig.rec", &mut twig) else {
+        return ExitCode::FAILURE;
     };
     print(
+        &rt,
         front(&names, names_len),
         front(&store, store_len),
         front(&twig, twig_len),
-    );
+    )
 }

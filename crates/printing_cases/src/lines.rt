@@ -5,6 +5,7 @@ use crate::show::{NEWLINE, answer, title};
 use case_lines::{ROW, bar_of, read_row};
 use guards::{byte, number};
 use prefixes::front_bytes;
+use std::io;
 use suffixes::behind_bytes;
 use wrapping::sum;
 
@@ -22,49 +23,57 @@ fn change(letter: u8, row: &[usize], files: &mut [u8]) {
 }
 
 // The change of a case, and what is printed for the files.
-fn case(letter: u8, row: &[usize], files: &[u8]) {
+fn case(rt: &impl Print, letter: u8, row: &[usize], files: &[u8]) -> io::Result<()> {
     let mut changed = [0u8; AREAS];
     fill(&mut changed, 0, files);
     change(letter, row, &mut changed);
     let first = if letter == b'o' { number(row, 1) } else { 0 };
-    answer(&changed, first);
+    answer(rt, &changed, first)
 }
 
 // A line: without text it changes the files for the lines behind it, with text for itself alone.
-fn line(line: &[u8], files: &mut [u8]) {
+fn line(rt: &impl Print, line: &[u8], files: &mut [u8]) -> io::Result<()> {
     let bar = bar_of(line);
     if bar == line.len() {
-        return;
+        return Ok(());
     }
     let mut row = [0usize; ROW];
     read_row(line, bar, &mut row);
     let letter = byte(line, sum(bar, 1));
     if bar == 0 {
         change(letter, &row, files);
-        return;
+        return Ok(());
     }
-    title(front_bytes(line, bar));
+    title(rt, front_bytes(line, bar))?;
     if letter != 0 {
-        case(letter, &row, files);
+        case(rt, letter, &row, files)?;
     }
+    Ok(())
 }
 
 // The line that ends at a place, if one does; where the next one begins.
-fn run(text: &[u8], start: usize, end: usize, files: &mut [u8]) -> usize {
+fn run(
+    rt: &impl Print,
+    text: &[u8],
+    start: usize,
+    end: usize,
+    files: &mut [u8],
+) -> io::Result<usize> {
     if byte(text, end) != NEWLINE {
-        return start;
+        return Ok(start);
     }
     let len = std::num::wrapping_sub_usize(end, start);
-    line(front_bytes(behind_bytes(text, start), len), files);
-    sum(end, 1)
+    line(rt, front_bytes(behind_bytes(text, start), len), files)?;
+    Ok(sum(end, 1))
 }
 
 // Every line of a text, in turn.
-pub fn lines(text: &[u8], files: &mut [u8]) {
+pub fn lines(rt: &impl Print, text: &[u8], files: &mut [u8]) -> io::Result<()> {
     let mut start: usize = 0;
     let mut i: usize = 0;
     while i < text.len() {
-        start = run(text, start, i, files);
+        start = run(rt, text, start, i, files)?;
         i += 1;
     }
+    Ok(())
 }

@@ -3,6 +3,7 @@ use crate::files::{NAMES, STORE, TWIG, file};
 use guards::byte;
 use prefixes::front_bytes;
 use printing::{TEXT_BYTES, print_matches};
+use std::io;
 use suffixes::behind_bytes;
 use wrapping::sum;
 
@@ -12,28 +13,28 @@ pub const NEWLINE: u8 = 10;
 const SPACE: u8 = 32;
 
 // Text as it is.
-fn say(text: &[u8]) {
-    io::write_all(1, text);
+fn say(rt: &impl Print, text: &[u8]) -> io::Result<()> {
+    rt.write_all(text)
 }
 
 // A number in decimal.
-fn number(n: usize) {
-    io::print_decimal(1, n as u64);
+fn number(rt: &impl Print, n: usize) -> io::Result<()> {
+    rt.print(n)
 }
 
 // The text of a line; what follows stands behind a space at its end, and on a line of its own otherwise.
-pub fn title(text: &[u8]) {
-    say(text);
+pub fn title(rt: &impl Print, text: &[u8]) -> io::Result<()> {
+    say(rt, text)?;
     if byte(text, std::num::wrapping_sub_usize(text.len(), 1)) != SPACE {
-        say(b"\n");
+        say(rt, b"\n")?;
     }
+    Ok(())
 }
 
 // A text; only its size, its first bytes and its last line where some first bytes are asked for.
-fn show(text: &[u8], first: usize) {
+fn show(rt: &impl Print, text: &[u8], first: usize) -> io::Result<()> {
     if first == 0 {
-        say(text);
-        return;
+        return say(rt, text);
     }
     let mut lines: usize = 1;
     let mut last: usize = 0;
@@ -45,17 +46,17 @@ fn show(text: &[u8], first: usize) {
         }
         i += 1;
     }
-    number(text.len());
-    say(b" bytes in ");
-    number(lines);
-    say(b" lines\n");
-    say(front_bytes(text, first));
-    say(b"..\n");
-    say(behind_bytes(text, last));
+    number(rt, text.len())?;
+    say(rt, b" bytes in ")?;
+    number(rt, lines)?;
+    say(rt, b" lines\n")?;
+    say(rt, front_bytes(text, first))?;
+    say(rt, b"..\n")?;
+    say(rt, behind_bytes(text, last))
 }
 
 // What is printed for the three files.
-pub fn answer(files: &[u8], first: usize) {
+pub fn answer(rt: &impl Print, files: &[u8], first: usize) -> io::Result<()> {
     let mut text = [0u8; TEXT_BYTES];
     let n = print_matches(
         file(files, NAMES),
@@ -63,5 +64,5 @@ pub fn answer(files: &[u8], first: usize) {
         file(files, TWIG),
         &mut text,
     );
-    show(front_bytes(&text, n), first);
+    show(rt, front_bytes(&text, n), first)
 }

@@ -12,6 +12,7 @@ use matching::match_twig;
 use names::Table;
 use prefixes::{front_mut, front_numbers};
 use refusals::{Listing, Refusal, Verdict};
+use std::io;
 
 // The words of an output with room for 1,250 matches of eight nodes.
 const OUT_WORDS: usize = 160000;
@@ -100,15 +101,22 @@ fn is_right(listing: Listing, d: Due, shown: usize, out: &[u16]) -> bool {
 }
 
 // A pair counted by its matches and the library's answer. One that differs is told by its number.
-fn count_answer(tally: &mut [usize], n: usize, short: bool, good: bool) {
+fn count_answer(
+    rt: &impl Print,
+    tally: &mut [usize],
+    n: usize,
+    short: bool,
+    good: bool,
+) -> io::Result<()> {
     count_if(tally, PAIRS, true);
     count_if(tally, AGREE, good);
     count_if(tally, NO_MATCH, n == 0);
     count_if(tally, MANY_MATCHES, MANY <= n);
     count_if(tally, REFUSED, short);
     if !good {
-        say(b"pair # differs\n", tally);
+        say(rt, b"pair # differs\n", tally)?;
     }
+    Ok(())
 }
 
 // A pair counted by its twig and its streams.
@@ -120,6 +128,7 @@ pub fn count_twig(tally: &mut [usize], twig: &[u8], empty: usize) {
 
 // A twig over its streams by the two matchers, compared and counted; whether the slow one came to an end.
 pub fn compare(
+    rt: &impl Print,
     table: &Table,
     twig: &[u8],
     store: &[u16],
@@ -127,12 +136,12 @@ pub fn compare(
     numbers: &[usize],
     leaves: usize,
     tally: &mut [usize],
-) -> bool {
+) -> io::Result<bool> {
     let mut out = [MARK; OUT_WORDS];
     let walk = slow_matches(twig, store, streams, numbers, &out);
     if walk.next != OVER {
         count_if(tally, UNFINISHED, true);
-        return false;
+        return Ok(false);
     }
     let need = start(walk.labels);
     let room = room_for(need, twig, number(tally, PAIRS));
@@ -153,6 +162,6 @@ pub fn compare(
         again.shown,
         &out,
     );
-    count_answer(tally, walk.found, short, good);
-    true
+    count_answer(rt, tally, walk.found, short, good)?;
+    Ok(true)
 }

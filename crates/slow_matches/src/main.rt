@@ -18,21 +18,23 @@ mod twig_parts;
 
 use pairs::ask_store;
 use random::SEED;
+use std::io;
 use tally::{KINDS, say};
 
 // How many stores there are.
 const STORES: usize = 120;
 
-fn main() {
+fn main(rt: HostRuntime) -> io::Result<()> {
     let mut tally = [0usize; KINDS];
     let mut state = SEED;
     let mut i: usize = 0;
     while i < STORES {
-        ask_store(i, &mut state, &mut tally);
+        ask_store(&rt, i, &mut state, &mut tally)?;
         i += 1;
     }
     say(
+        &rt,
         b"pairs of a store and a twig: #\nthe two matchers agree: #\ntwigs of 1 to 8 records: # # # # # # # #\nwith a wildcard that branches: #\nwith an empty stream: #\nwith 0 matches: #\nwith 1,000 matches or more: #\nrefused 17: #\nleft out, too many choices: #\n",
         &tally,
-    );
+    )
 }

@@ -11,6 +11,7 @@ use crate::twig_parts::{MAX_NODES, NODE_BYTES};
 use names::Table;
 use prefixes::{front, front_bytes};
 use records::Store;
+use std::io;
 
 // How many twigs are asked of each store: as many of each size.
 const TWIGS: usize = 24;
@@ -26,7 +27,14 @@ const LARGE: usize = 600;
 const DEEPEST: usize = 3;
 
 // A twig of some nodes asked of a store.
-fn ask(table: &Table, store: &[u16], size: usize, state: &mut u64, tally: &mut [usize]) {
+fn ask(
+    rt: &impl Print,
+    table: &Table,
+    store: &[u16],
+    size: usize,
+    state: &mut u64,
+    tally: &mut [usize],
+) -> io::Result<()> {
     let mut made = [0u8; MADE_BYTES];
     let mut buffer = [0u16; BUFFER_WORDS];
     let mut numbers = [0usize; NUMBERS];
@@ -34,13 +42,19 @@ fn ask(table: &Table, store: &[u16], size: usize, state: &mut u64, tally: &mut [
     let twig = front_bytes(&made, size % 9 * NODE_BYTES);
     let s = cut_streams(table, store, twig, &mut buffer, &mut numbers, state);
     let streams = front(&buffer, start(s.labels));
-    if compare(table, twig, store, streams, &numbers, s.leaves, tally) {
+    if compare(rt, table, twig, store, streams, &numbers, s.leaves, tally)? {
         count_twig(tally, twig, s.empty);
     }
+    Ok(())
 }
 
 // Twigs of every size asked of store i, which is made up under one of the tables.
-pub fn ask_store(i: usize, state: &mut u64, tally: &mut [usize]) {
+pub fn ask_store(
+    rt: &impl Print,
+    i: usize,
+    state: &mut u64,
+    tally: &mut [usize],
+) -> io::Result<()> {
     let t = table(i % TABLES);
     let mut words = [0u16; STORE_WORDS];
     let changes = if i % LARGE_EVERY == 0 {
@@ -53,7 +67,8 @@ pub fn ask_store(i: usize, state: &mut u64, tally: &mut [usize]) {
     let store = front(&words, count % STORE_WORDS * Store::RECORD_WORDS);
     let mut k: usize = 0;
     while k < TWIGS {
-        ask(&t, store, k % MAX_NODES + 1, state, tally);
+        ask(rt, &t, store, k % MAX_NODES + 1, state, tally)?;
         k += 1;
     }
+    Ok(())
 }

@@ -1,6 +1,7 @@
 // How many pairs there are of each kind, counted and printed.
 use crate::slices::sum;
 use guards::number;
+use std::io;
 
 // The kinds, and where each is counted. The twigs of a size are counted as many places behind one place.
 pub const PAIRS: usize = 0;
@@ -28,16 +29,17 @@ pub const KINDS: usize = 16;
 const COUNT: u8 = 35;
 
 // A text with the counts, from the first on.
-pub fn say(text: &[u8], tally: &[usize]) {
+pub fn say(rt: &impl Print, text: &[u8], tally: &[usize]) -> io::Result<()> {
     let mut kind: usize = 0;
     let mut i: usize = 0;
     while i < text.len() {
         if text[i] == COUNT {
-            io::print_decimal(1, number(tally, kind) as u64);
+            rt.print(number(tally, kind))?;
             kind = sum(kind, 1);
         } else {
-            io::write_all(1, &text[i..i + 1]);
+            rt.write_all(&text[i..i + 1])?;
         }
         i += 1;
     }
+    Ok(())
 }
