@@ -3,18 +3,18 @@ use Rattle.std.proofs.Common.{◌-◌, ◌≤◌, length, rules}
 use Rattle.bench_checks.proofs.stores.same.Statement.{statement}
 use Rattle.bench_checks.proofs.stores.same.Tie as tie
 
-abbrev invariant-loop : tie.invariant-loop
-invariant-loop words others i₀ i = i ≤ length words
+abbrev invariant-loop-i : tie.invariant-loop-i
+invariant-loop-i words others i₀ i = i ≤ length words
 
-abbrev decreases-loop : tie.decreases-loop
-decreases-loop words others i₀ i = length words - i
+abbrev decreases-loop-i : tie.decreases-loop-i
+decreases-loop-i words others i₀ i = length words - i
 
 pub same_spec : {M : Type 1} → statement M
 same_spec =
     tie.close
     (tie.spec
-    invariant-loop
-    decreases-loop
+    invariant-loop-i
+    decreases-loop-i
     (λ c. search rules)
     (λ c. search rules)
     (λ c. search rules)

@@ -3,18 +3,18 @@ use Rattle.std.proofs.Common.{◌≡◌, ◌-◌, ◌≤◌, length, rules}
 use Rattle.printing_cases.proofs.files.bytes.Statement.{statement}
 use Rattle.printing_cases.proofs.files.bytes.Tie as tie
 
-abbrev invariant-loop : tie.invariant-loop
-invariant-loop row area files₀ many at i₀ files i = (length files ≡ length files₀) × (2 ≤ i)
+abbrev invariant-loop-i : tie.invariant-loop-i
+invariant-loop-i row area files₀ many at i₀ files i = (length files ≡ length files₀) × (2 ≤ i)
 
-abbrev decreases-loop : tie.decreases-loop
-decreases-loop row area files₀ many at i₀ files i = many - i
+abbrev decreases-loop-i : tie.decreases-loop-i
+decreases-loop-i row area files₀ many at i₀ files i = many - i
 
 pub bytes_spec : {M : Type 1} → statement M
 bytes_spec =
     tie.close
     (tie.spec
-    invariant-loop
-    decreases-loop
+    invariant-loop-i
+    decreases-loop-i
     (λ c κs. search rules)
     (λ c κs. search rules)
     (λ c κs. search rules)

@@ -3,18 +3,18 @@ use Rattle.std.proofs.Common.{◌≡◌, ◌-◌, ◌≤◌, length, rules}
 use Rattle.printing_cases.proofs.files.many.Statement.{statement}
 use Rattle.printing_cases.proofs.files.many.Tie as tie
 
-abbrev invariant-loop : tie.invariant-loop
-invariant-loop row files₀ count x₀ i₀ files x i = (length files ≡ length files₀) × (i ≤ count)
+abbrev invariant-loop-i : tie.invariant-loop-i
+invariant-loop-i row files₀ count x₀ i₀ files x i = (length files ≡ length files₀) × (i ≤ count)
 
-abbrev decreases-loop : tie.decreases-loop
-decreases-loop row files₀ count x₀ i₀ files x i = count - i
+abbrev decreases-loop-i : tie.decreases-loop-i
+decreases-loop-i row files₀ count x₀ i₀ files x i = count - i
 
 pub many_spec : {M : Type 1} → statement M
 many_spec =
     tie.close
     (tie.spec
-    invariant-loop
-    decreases-loop
+    invariant-loop-i
+    decreases-loop-i
     (λ c κs. search rules)
     (λ c κs. search rules)
     (λ c. search rules)

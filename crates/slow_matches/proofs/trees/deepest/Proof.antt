@@ -3,18 +3,18 @@ use Rattle.std.proofs.Common.{◌-◌, ◌≤◌, rules}
 use Rattle.slow_matches.proofs.trees.deepest.Statement.{statement}
 use Rattle.slow_matches.proofs.trees.deepest.Tie as tie
 
-abbrev invariant-loop : tie.invariant-loop
-invariant-loop words count tries state₀ r₀ i₀ state r i = i₀ ≤ i
+abbrev invariant-loop-i : tie.invariant-loop-i
+invariant-loop-i words count tries state₀ r₀ i₀ state r i = i₀ ≤ i
 
-abbrev decreases-loop : tie.decreases-loop
-decreases-loop words count tries state₀ r₀ i₀ state r i = tries - i
+abbrev decreases-loop-i : tie.decreases-loop-i
+decreases-loop-i words count tries state₀ r₀ i₀ state r i = tries - i
 
 pub deepest_spec : {M : Type 1} → statement M
 deepest_spec =
     tie.close
     (tie.spec
-    invariant-loop
-    decreases-loop
+    invariant-loop-i
+    decreases-loop-i
     (λ c κs. search rules)
     (λ c. search rules)
     (λ c κs. search rules)

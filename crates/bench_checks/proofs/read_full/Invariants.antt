@@ -1,0 +1,9 @@
+-- `bench_checks::read_full` ends: what was read is within the buffer, and each read of some bytes leaves fewer to read.
+use Rattle.std.proofs.Common.{length, ◌-◌, ◌≤◌}
+use Rattle.bench_checks.proofs.read_full.Given as goal
+
+abbrev pub invariant-loop-n : goal.invariant-loop-n
+invariant-loop-n g l = l.n ≤ length l.bytes
+
+abbrev pub decreases-loop-n : goal.decreases-loop-n
+decreases-loop-n g l = length l.initial.bytes - l.n

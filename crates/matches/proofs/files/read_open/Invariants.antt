@@ -1,0 +1,9 @@
+-- `matches::files::read_open` ends: what was read is within the buffer, and each read of some bytes leaves fewer to read.
+use Rattle.std.proofs.Common.{length, ◌-◌, ◌≤◌}
+use Rattle.matches.proofs.files.read_open.Given as goal
+
+abbrev pub invariant-loop-n : goal.invariant-loop-n
+invariant-loop-n g l = l.n ≤ length l.bytes
+
+abbrev pub decreases-loop-n : goal.decreases-loop-n
+decreases-loop-n g l = length l.initial.bytes - l.n
