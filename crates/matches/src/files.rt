@@ -40,13 +40,10 @@ fn read_open(file: &mut impl Read, bytes: &mut [u8]) -> io::Result<usize> {
 // The bytes of a file, put at the front of a buffer.
 pub fn read_file(rt: &(impl Files + Eprint), path: &str, bytes: &mut [u8]) -> Reading {
     match fs::open(rt, path) {
-        Ok(file) => {
-            let mut file = file;
-            match read_open(&mut file, bytes) {
-                Ok(n) => Reading::Bytes(n),
-                Err(error) => failed(rt, path, error),
-            }
-        }
+        Ok(mut file) => match read_open(&mut file, bytes) {
+            Ok(n) => Reading::Bytes(n),
+            Err(error) => failed(rt, path, error),
+        },
         Err(error) => unopened(rt, path, error),
     }
 }
