@@ -1,5 +1,5 @@
 // One twig over its streams, by the slow matcher and by the library's.
-use crate::label_words::start;
+use crate::label_lists::start;
 use crate::slices::{count_if, sum};
 use crate::slow::{OVER, slow_matches};
 use crate::tally::{

@@ -1,5 +1,5 @@
 // The streams of a twig, cut from a store one after the other; some emptied, some thinned.
-use crate::label_words::start;
+use crate::label_lists::start;
 use crate::random::roll;
 use crate::slices::sum;
 use crate::twig_parts::{MAX_NODES, NAME, NODE_BYTES, children, part};

@@ -4,7 +4,7 @@
 
 mod choices;
 mod comparing;
-mod label_words;
+mod label_lists;
 mod leaf_streams;
 mod pairs;
 mod random;

@@ -1,6 +1,6 @@
 // Pairs of a store and a twig: made up, compared and counted.
 use crate::comparing::{compare, count_twig};
-use crate::label_words::start;
+use crate::label_lists::start;
 use crate::leaf_streams::{BUFFER_WORDS, NUMBERS, cut_streams};
 use crate::random::roll;
 use crate::slices::sum;

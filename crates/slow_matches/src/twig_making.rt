@@ -1,5 +1,5 @@
 // Twigs made up beside a store: each node has a host there, below its parent's where one is found.
-use crate::label_words::way;
+use crate::label_lists::way;
 use crate::random::roll;
 use crate::slices::sum;
 use crate::trees::{record_label, record_name};
