@@ -1,6 +1,6 @@
 -- A child-name file read pair by pair: the check goes on with the pairs left, and the table grows by one name.
 use mathlib.Core.Path.{◌≡◌, refl, sym, ap, subst, ◌∙◌}
-use mathlib.Core.Logic.{◌↔◌, ◌⊎◌, inl, inr, ⊎_elim}
+use mathlib.Core.Logic.{◌↔◌, inl, ⊎_elim}
 use mathlib.Core.Bool.{◌&&◌}
 use mathlib.Core.List.{List, [], ◌∷◌, ◌++◌, append_assoc, append-nil, reverse_aux, map-append}
 use mathlib.Core.Option.{none, some}
@@ -16,7 +16,7 @@ use Rattle.basics.specs.Limits.{max_name, table_size, filler}
 use Rattle.basics.specs.Refusals.{refuse, name_too_high, pair_again}
 use Rattle.naming.specs.Names.{Table, is_name, Pair, pairs, children, pair_check, pairs_check, row_of, table_of, empty_table, clues_of, place_in}
 use Rattle.basics.proofs.Tests.{and_iff, is_true, is_false, eqb_alike}
-use Rattle.basics.proofs.Lists.{here, there, here_or_there, nowhere, member_at, keep_append, stands_iff, reverse_mem}
+use Rattle.basics.proofs.Lists.{nowhere, member_at, keep_append, stands_iff, reverse_mem}
 use Rattle.basics.proofs.Refusals.{first_none, first_next, first_here, first_passed, last_passed, check_passed, check_failed}
 use Rattle.naming.proofs.Once.{pigeonhole}
 use Rattle.naming.proofs.NameTables.{placed_at, place_in_none}

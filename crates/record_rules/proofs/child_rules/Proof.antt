@@ -1,6 +1,5 @@
 -- `record_rules::child_rules` meets its contract: the rules are tested in the paper's order.
 use borrow.Author.Rules.{rules, Fits-under}
-use mir.Facts.{Fits-widen}
 use Rattle.clue_lengths.proofs.Lengths.{length_is}
 use Rattle.record_rules.proofs.Rules.{shared_lent, shared_few, below_order, below_parent, below_name, below_last, below_next, below_kept}
 use Rattle.record_rules.proofs.child_rules.Statement.{statement}

@@ -1,6 +1,5 @@
 -- `records::label_at` meets its contract: a record's first word counts its components.
 use borrow.Author.Rules.{rules}
-use mir.Facts.{Fits-widen}
 use Rattle.records.proofs.Parts.{record_label, record_long}
 use Rattle.records.proofs.label_at.Statement.{statement}
 use Rattle.records.proofs.label_at.Tie as tie
