@@ -1,5 +1,5 @@
 -- The matches that words hold, and the room that their text needs.
-use Rattle.std.specs.Prelude.{List, [], ◌∷◌, ◌++◌, ℕ, zero, suc, ◌+◌, ◌*◌, ◌<◌, ◌≤◌, get_or, drop}
+use Rattle.std.specs.Prelude.{List, [], ◌∷◌, ◌++◌, ℕ, zero, suc, ◌*◌, ◌<◌, ◌≤◌, get_or, drop}
 use Rattle.basics.specs.Limits.{max_depth, label_size}
 use Rattle.embeddings.specs.Matches.{Match}
 use Rattle.match_calls.specs.Matching.{labels_in}

@@ -1,6 +1,5 @@
 -- `table_checks::all_filler` meets its contract: the numbers before the index are filler if the least of them is.
 use Prim.Native.Nat.{◌≤◌, ◌-◌}
-use mathlib.Core.Logic.{⊎_elim}
 use borrow.Author.Rules.{rules}
 use lib.ListN.{length}
 use Rattle.basics.specs.Limits.{filler}
