@@ -1,7 +1,6 @@
 // Refusals as data: a number and a place. No other code says which number stands for what.
 #![tactic(auto)]
 
-
 ghost use Rattle.std.specs.Prelude.{◌≡◌};
 ghost use Rattle.basics.specs.Refusals as spec;
 ghost use Rattle.refusals.specs.Answers.{verdict_of, refused_by};

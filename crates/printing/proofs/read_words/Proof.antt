@@ -10,30 +10,30 @@ use Rattle.printing.proofs.Files.{byte_high, byte_pair, read_more, read_all}
 use Rattle.printing.proofs.read_words.Statement.{statement}
 use Rattle.printing.proofs.read_words.Tie as tie
 
-abbrev invariant-loop : tie.invariant-loop
-invariant-loop bytes words₀ n i₀ words i =
+abbrev invariant-loop-i : tie.invariant-loop-i
+invariant-loop-i bytes words₀ n i₀ words i =
     (n ≡ length bytes / 2) × (i ≤ n) × (length words ≡ length words₀) × (words ≡ take i (file_words bytes) ++ drop i words₀)
 
-abbrev decreases-loop : tie.decreases-loop
-decreases-loop bytes words₀ n i₀ words i = n - i
+abbrev decreases-loop-i : tie.decreases-loop-i
+decreases-loop-i bytes words₀ n i₀ words i = n - i
 
 pub read_words_spec : {M : Type 1} → statement M
 read_words_spec =
     tie.close
     (tie.spec
-    invariant-loop
-    decreases-loop
+    invariant-loop-i
+    decreases-loop-i
     (λ c. search rules)
     (λ c. search rules)
     (λ c. search rules)
     (λ c. search rules)
-    (λ c. Fits-widen tt (c.shared-slice-known.given _))
+    (λ c. Fits-widen tt (c.shared_slice_known-1.given _))
     (λ c. search rules)
     (λ c. search rules)
     (λ c. search rules)
-    (λ c. Fits-widen tt (c.shared-slice-known2.given _))
-    (λ c. byte_high (c.shared-slice-known2.given _))
-    (λ c. byte_pair (c.before.shared-slice-known.given _) (c.shared-slice-known2.given _))
+    (λ c. Fits-widen tt (c.shared_slice_known-in-loop-i-1.given _))
+    (λ c. byte_high (c.shared_slice_known-in-loop-i-1.given _))
+    (λ c. byte_pair (c.before.shared_slice_known-1.given _) (c.shared_slice_known-in-loop-i-1.given _))
     (λ c. search rules)
     (λ c. search rules)
     (λ c. search rules)
