@@ -22,10 +22,6 @@ names_along_share c κs = (search rules, search (share_in, rules), search rules,
 clue_empty : tie.Need-returns-then-not-lead_on
 clue_empty c = link_out _ _ _ _ _ _ _ (search (link_stuck, rules)) (search rules)
 
--- a label of another name is ruled out
-other_name : tie.Need-returns-then-not-asks
-other_name c = link_out _ _ _ _ _ _ _ (search (link_name, rules)) (search rules)
-
 -- a label that passes every test stands, with the names along it
 label_stands_lem : tie.Need-returns
 label_stands_lem c = (search (link_shares, link_stands, rules), (search rules, λ e. search (link_along, rules)))
@@ -49,6 +45,6 @@ read_label_spec =
     (λ c. search rules)
     (λ c κs. search rules)
     (λ c. search rules)
-    other_name
+    (λ c. link_out _ _ _ _ _ _ _ (search (link_name, rules)) (search rules))
     (λ c. search rules)
     label_stands_lem)
