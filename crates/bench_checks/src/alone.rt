@@ -2,15 +2,14 @@
 use crate::row::{put_words, table};
 use crate::show::{refusal, say, say_number, verdict};
 use bench_names::bench_table;
-use clues::{Place, clue_len, place_of};
+use clues::{clue_len, place_of};
 use decoding::decode;
-use guards::{byte, number, put_byte};
-use kinship::{FollowsAnswer, KinshipAnswer, follows, kinship};
+use guards::{item_at, put};
+use kinship::{follows, kinship};
 use label_checks::check_label;
 use name_files::{check_names, read_names};
-use names::TABLE_SIZE;
-use numbers::{Number, next_number};
-use prefixes::{front, front_bytes};
+use numbers::next_number;
+use prefixes::front;
 use refusals::Refusal;
 use std::io;
 use table_checks::check_table;
@@ -27,11 +26,11 @@ const MANY_BYTES: usize = 20000;
 fn give(rt: &impl Print, n: usize, k: usize, next: u16) -> io::Result<u16> {
     say(rt, b" ")?;
     match next_number(n, k, next) {
-        Number::Given(x) => {
+        Some(x) => {
             say_number(rt, x as usize)?;
-            Ok(std::num::wrapping_add_u16(x, 1))
+            Ok(x.wrapping_add(1))
         }
-        Number::NoneLeft => {
+        None => {
             say(rt, b"refused ")?;
             say_number(rt, Refusal::NO_NUMBER as usize)?;
             Ok(next)
@@ -43,8 +42,8 @@ fn give(rt: &impl Print, n: usize, k: usize, next: u16) -> io::Result<u16> {
 fn give_below(rt: &impl Print, parent: usize, child: u8, next: u16) -> io::Result<u16> {
     let t = bench_table();
     match place_of(&t, parent, child) {
-        Place::At(k) => give(rt, clue_len(&t, parent), k, next),
-        Place::Absent => {
+        Some(k) => give(rt, clue_len(&t, parent), k, next),
+        None => {
             say(rt, b" no place")?;
             Ok(next)
         }
@@ -53,28 +52,22 @@ fn give_below(rt: &impl Print, parent: usize, child: u8, next: u16) -> io::Resul
 
 // below PARENT NAME..: the numbers of children, one after the other.
 pub fn below(rt: &impl Print, row: &[usize]) -> io::Result<()> {
-    let many = number(row, 0);
     let mut next: u16 = 0;
-    let mut i: usize = 1;
-    while i < many {
-        i += 1;
-        next = give_below(rt, number(row, 1), octet(row, i), next)?;
+    for i in 2..=item_at(row, 0) {
+        next = give_below(rt, item_at(row, 1), octet(row, i), next)?;
     }
     Ok(())
 }
 
 // give N K F EARLIER: the number of a child of place K of N, after some earlier ones from the next number F on.
 pub fn given(rt: &impl Print, row: &[usize]) -> io::Result<()> {
-    let earlier = number(row, 4);
     let mut next = half(row, 3);
-    let mut i: usize = 0;
-    while i < earlier {
-        if let Number::Given(x) = next_number(number(row, 1), number(row, 2), next) {
-            next = std::num::wrapping_add_u16(x, 1);
+    for _ in 0..item_at(row, 4) {
+        if let Some(x) = next_number(item_at(row, 1), item_at(row, 2), next) {
+            next = x.wrapping_add(1);
         }
-        i += 1;
     }
-    give(rt, number(row, 1), number(row, 2), next)?;
+    give(rt, item_at(row, 1), item_at(row, 2), next)?;
     Ok(())
 }
 
@@ -82,13 +75,10 @@ pub fn given(rt: &impl Print, row: &[usize]) -> io::Result<()> {
 pub fn file(rt: &impl Print, row: &[usize]) -> io::Result<()> {
     let filling = octet(row, 2);
     let mut bytes = [filling; MANY_BYTES];
-    let many = number(row, 0);
-    let mut i: usize = 2;
-    while i < many {
-        i += 1;
-        put_byte(&mut bytes, i - 3, octet(row, i));
+    for i in 3..=item_at(row, 0) {
+        put(&mut bytes, i - 3, octet(row, i));
     }
-    let file = front_bytes(&bytes, number(row, 1));
+    let file = front(&bytes, item_at(row, 1));
     verdict(rt, check_names(file))?;
     say(rt, b", clue of 0: ")?;
     say_number(rt, clue_len(&read_names(file), 0))
@@ -96,13 +86,9 @@ pub fn file(rt: &impl Print, row: &[usize]) -> io::Result<()> {
 
 // table TABLE ROW PLACE X: the check of a table with one number changed.
 pub fn table_case(rt: &impl Print, row: &[usize]) -> io::Result<()> {
-    let mut t = table(number(row, 1));
-    let r = number(row, 2);
-    let place = number(row, 3);
-    if r < TABLE_SIZE {
-        if place < TABLE_SIZE {
-            t[r][place] = octet(row, 4);
-        }
+    let mut t = table(item_at(row, 1));
+    if let Some(names) = t.get_mut(item_at(row, 2)) {
+        put(names, item_at(row, 3), octet(row, 4));
     }
     verdict(rt, check_table(t))
 }
@@ -111,16 +97,14 @@ pub fn table_case(rt: &impl Print, row: &[usize]) -> io::Result<()> {
 pub fn label(rt: &impl Print, row: &[usize]) -> io::Result<()> {
     let mut words = [0u16; MANY_WORDS];
     put_words(row, 2, 17, &mut words);
-    verdict(rt, check_label(front(&words, number(row, 1))))
+    verdict(rt, check_label(front(&words, item_at(row, 1))))
 }
 
 // The sixteen names of a path, shown in turn.
 fn say_names(rt: &impl Print, names: &[u8]) -> io::Result<()> {
-    let mut i: usize = 0;
-    while i < 16 {
+    for name in names {
         say(rt, b" ")?;
-        say_number(rt, byte(names, i) as usize)?;
-        i += 1;
+        say_number(rt, *name as usize)?;
     }
     Ok(())
 }
@@ -129,7 +113,7 @@ fn say_names(rt: &impl Print, names: &[u8]) -> io::Result<()> {
 pub fn path(rt: &impl Print, row: &[usize]) -> io::Result<()> {
     let mut words = [0u16; 16];
     put_words(row, 3, 16, &mut words);
-    let d = decode(table(number(row, 1)), octet(row, 2), &words);
+    let d = decode(table(item_at(row, 1)), octet(row, 2), &words);
     let v = d.verdict;
     let names = d.names;
     verdict(rt, v)?;
@@ -143,9 +127,9 @@ pub fn kin(rt: &impl Print, row: &[usize]) -> io::Result<()> {
     let mut b = [0u16; 16];
     put_words(row, 2, 3, &mut a);
     put_words(row, 6, 3, &mut b);
-    match kinship(front(&a, number(row, 1)), front(&b, number(row, 5))) {
-        KinshipAnswer::Is(k) => say_number(rt, k as usize),
-        KinshipAnswer::Refused(r) => refusal(rt, r),
+    match kinship(front(&a, item_at(row, 1)), front(&b, item_at(row, 5))) {
+        Ok(relation) => say_number(rt, usize::from(relation.number())),
+        Err(r) => refusal(rt, r),
     }
 }
 
@@ -160,9 +144,9 @@ pub fn order(rt: &impl Print, row: &[usize]) -> io::Result<()> {
     let mut b = [0u16; 16];
     put_words(row, 2, 3, &mut a);
     put_words(row, 6, 3, &mut b);
-    match follows(front(&a, number(row, 1)), front(&b, number(row, 5))) {
-        FollowsAnswer::Is(yes) => answer(rt, yes),
-        FollowsAnswer::Refused(r) => refusal(rt, r),
+    match follows(front(&a, item_at(row, 1)), front(&b, item_at(row, 5))) {
+        Ok(yes) => answer(rt, yes),
+        Err(r) => refusal(rt, r),
     }
 }
 
@@ -170,5 +154,5 @@ pub fn order(rt: &impl Print, row: &[usize]) -> io::Result<()> {
 pub fn query(rt: &impl Print, row: &[usize]) -> io::Result<()> {
     let mut twig = [0u8; 64];
     twig[0] = 255;
-    verdict(rt, check_twig(front_bytes(&twig, number(row, 1))))
+    verdict(rt, check_twig(front(&twig, item_at(row, 1))))
 }

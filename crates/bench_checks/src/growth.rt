@@ -7,7 +7,7 @@ use bench_names::bench_table;
 use case_lines::ROW;
 use deletions::delete;
 use entries::enter;
-use guards::number;
+use guards::item_at;
 use prefixes::{copy, front, front_mut};
 use std::io;
 use wrapping::{half, octet, sum};
@@ -36,15 +36,15 @@ fn parent_at(p: usize, start: usize, count: usize) -> usize {
     } else {
         sum(start, p)
     };
-    std::num::wrapping_sub_usize(from, 1)
+    from.wrapping_sub(1)
 }
 
 // The mark of an entry: the row's, one more with each entry if the step is not 0.
 fn mark_of(row: &[usize], entered: usize) -> u16 {
-    if number(row, 7) == 0 {
+    if item_at(row, 7) == 0 {
         return half(row, 6);
     }
-    std::num::wrapping_add_u16(half(row, 6), (entered % 65536) as u16)
+    half(row, 6).wrapping_add((entered % 65536) as u16)
 }
 
 // An entry of a parent and a name, if the row has them; the count after it. Its payload is its mark and the name.
@@ -56,24 +56,24 @@ fn add_one(
     start: usize,
     count: usize,
 ) -> io::Result<usize> {
-    if number(row, 0) <= at {
+    if item_at(row, 0) <= at {
         return Ok(count);
     }
     let mut parent = [0u16; 16];
-    let up = parent_at(number(row, at), start, count);
+    let up = parent_at(item_at(row, at), start, count);
     copy(&mut parent, label_of(words, up));
     let name = octet(row, sum(at, 1));
-    let mark = mark_of(row, std::num::wrapping_sub_usize(count, start));
+    let mark = mark_of(row, count.wrapping_sub(start));
     let e = enter(
-        table(number(row, 2)),
-        front_mut(words, number(row, 3)),
+        table(item_at(row, 2)),
+        front_mut(words, item_at(row, 3)),
         count,
         &parent,
         name,
         [mark, name as u16],
     );
     let label = e.label;
-    if number(row, 1) == ALL {
+    if item_at(row, 1) == ALL {
         say(rt, b" ")?;
         dotted(rt, &label)?;
     }
@@ -83,10 +83,8 @@ fn add_one(
 // The entries of a row; the count after them.
 fn add_all(rt: &impl Print, row: &[usize], words: &mut [u16], start: usize) -> io::Result<usize> {
     let mut count = start;
-    let mut at: usize = PAIRS;
-    while at < ROW {
+    for at in (PAIRS..ROW).step_by(2) {
         count = add_one(rt, row, at, words, start, count)?;
-        at += 2;
     }
     Ok(count)
 }
@@ -117,30 +115,24 @@ fn summary(
 
 // add SHOWN TABLE WORDS COUNT TIMES MARK STEP PARENT NAME..: the entries of a row, some times.
 pub fn add(rt: &impl Print, row: &[usize], words: &mut [u16]) -> io::Result<()> {
-    let start = number(row, 4);
-    let times = number(row, 5);
+    let start = item_at(row, 4);
     let mut last = start;
     let mut count = start;
-    let mut i: usize = 0;
-    while i < times {
+    for _ in 0..item_at(row, 5) {
         last = count;
         count = add_all(rt, row, words, count)?;
-        i += 1;
     }
-    summary(rt, number(row, 1), words, start, last, count)
+    summary(rt, item_at(row, 1), words, start, last, count)
 }
 
 // wipe WORDS COUNT VEHICLES OLD: vehicles deleted from 0 on, and what is left in the words.
 pub fn wipe(rt: &impl Print, row: &[usize], words: &mut [u16]) -> io::Result<()> {
-    let many = half(row, 3);
-    let len = number(row, 1);
-    let mut count = number(row, 2);
-    let mut v: u16 = 0;
-    while v < many {
+    let len = item_at(row, 1);
+    let mut count = item_at(row, 2);
+    for v in 0..half(row, 3) {
         let label = [1, v, 0, 0, 0, 0, 0, 0, 0, 0, 0, 0, 0, 0, 0, 0];
         let c = delete(bench_table(), front_mut(words, len), count, &label);
         count = c.count;
-        v += 1;
     }
     say(rt, b"count ")?;
     say_number(rt, count)?;

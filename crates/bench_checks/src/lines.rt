@@ -7,13 +7,12 @@ use crate::outputs::{items, matching, stream};
 use crate::show::say;
 use crate::stores::{begin, check, deletion, entry, records, unchanged, value};
 use case_lines::{ROW, bar_of, read_row};
-use guards::byte;
-use prefixes::front_bytes;
+use guards::item_at;
+use prefixes::front;
 use std::io;
-use suffixes::behind_bytes;
 use wrapping::sum;
 
-const NEWLINE: u8 = 10;
+const NEWLINE: u8 = b'\n';
 
 // The calls that take no store.
 fn call_alone(rt: &impl Print, letter: u8, row: &[usize]) -> io::Result<()> {
@@ -79,38 +78,20 @@ fn line(rt: &impl Print, line: &[u8], words: &mut [u16], was: &mut [u16]) -> io:
     }
     let mut row = [0usize; ROW];
     read_row(line, bar, &mut row);
-    let letter = byte(line, sum(bar, 1));
-    say(rt, front_bytes(line, bar))?;
+    let letter = item_at(line, sum(bar, 1));
+    say(rt, front(line, bar))?;
     call_alone(rt, letter, &row)?;
     call_reading(rt, letter, &row, words, was)?;
     call_writing(rt, letter, &row, words, was)?;
     say(rt, b"\n")
 }
 
-// The line that ends at a place, if one does; where the next one begins.
-fn run(
-    rt: &impl Print,
-    text: &[u8],
-    start: usize,
-    end: usize,
-    words: &mut [u16],
-    was: &mut [u16],
-) -> io::Result<usize> {
-    if byte(text, end) != NEWLINE {
-        return Ok(start);
-    }
-    let len = std::num::wrapping_sub_usize(end, start);
-    line(rt, front_bytes(behind_bytes(text, start), len), words, was)?;
-    Ok(sum(end, 1))
-}
-
-// Every line, over one store.
+// Every line that ends, over one store.
 pub fn lines(rt: &impl Print, text: &[u8], words: &mut [u16], was: &mut [u16]) -> io::Result<()> {
-    let mut start: usize = 0;
-    let mut i: usize = 0;
-    while i < text.len() {
-        start = run(rt, text, start, i, words, was)?;
-        i += 1;
+    for part in text.split_inclusive(|b| *b == NEWLINE) {
+        if let Some(ended) = part.strip_suffix(&[NEWLINE]) {
+            line(rt, ended, words, was)?;
+        }
     }
     Ok(())
 }

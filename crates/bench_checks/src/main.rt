@@ -12,7 +12,7 @@ mod show;
 mod stores;
 
 use lines::lines;
-use prefixes::front_bytes;
+use prefixes::front;
 use std::io;
 use std::io::Read;
 use stores::LARGEST;
@@ -38,5 +38,5 @@ fn main(rt: HostRuntime) -> io::Result<()> {
     let n = read_full(&mut rt.reader(), &mut text)?;
     let mut words = [0u16; LARGEST];
     let mut was = [0u16; LARGEST];
-    lines(&rt, front_bytes(&text, n), &mut words, &mut was)
+    lines(&rt, front(&text, n), &mut words, &mut was)
 }

@@ -3,10 +3,10 @@ use crate::row::table;
 use crate::show::{dotted, say, say_number};
 use crate::stores::{count_of, outcome};
 use cutting::cut;
-use guards::{number, put_byte, put_word};
+use guards::{item_at, put};
 use labels::Label;
 use matching::match_twig;
-use prefixes::{front, front_bytes, front_mut, front_numbers};
+use prefixes::{front, front_mut};
 use refusals::Listing;
 use std::io;
 use suffixes::{behind, behind_mut};
@@ -40,11 +40,11 @@ const FOUR_LABELS: usize = 64;
 // The stream that a row asks for, written to an output.
 fn cut_by(row: &[usize], words: &[u16], out: &mut [u16]) -> Listing {
     cut(
-        table(number(row, 1)),
-        front(words, number(row, 2)),
-        number(row, 3),
+        table(item_at(row, 1)),
+        front(words, item_at(row, 2)),
+        item_at(row, 3),
         octet(row, 4),
-        front_mut(out, number(row, 5)),
+        front_mut(out, item_at(row, 5)),
     )
 }
 
@@ -61,12 +61,9 @@ pub fn stream(rt: &impl Print, row: &[usize], words: &[u16]) -> io::Result<()> {
 pub fn items(rt: &impl Print, row: &[usize], words: &[u16]) -> io::Result<()> {
     let mut out = [OLD; LABEL_ROOM];
     let l = cut_by(row, words, &mut out);
-    let count = l.count;
-    let mut i: usize = 0;
-    while i < count {
+    for i in 0..l.count {
         say(rt, b" ")?;
         dotted(rt, behind(&out, i % LABEL_ROOM * Label::WORDS))?;
-        i += 1;
     }
     say(rt, b", words as they were: ")?;
     say_number(rt, count_of(&out, OLD))
@@ -75,7 +72,7 @@ pub fn items(rt: &impl Print, row: &[usize], words: &[u16]) -> io::Result<()> {
 // The twig with the byte changed that a row tells.
 fn twig(row: &[usize]) -> [u8; 12] {
     let mut t = TWIG;
-    put_byte(&mut t, number(row, 4), octet(row, 5));
+    put(&mut t, item_at(row, 4), octet(row, 5));
     t
 }
 
@@ -86,20 +83,20 @@ fn streams(row: &[usize], words: &[u16]) -> [u16; FOUR_LABELS] {
     let store = front(words, SMALL_WORDS);
     cut(t, store, SMALL_COUNT, AXLE, &mut s);
     cut(t, store, SMALL_COUNT, CURVE, behind_mut(&mut s, TWO_LABELS));
-    put_word(&mut s, number(row, 6), half(row, 7));
+    put(&mut s, item_at(row, 6), half(row, 7));
     s
 }
 
 // The matches that a row asks for, written to an output.
 fn match_by(row: &[usize], words: &[u16], out: &mut [u16]) -> Listing {
-    let counts = [number(row, 9), number(row, 10), number(row, 11)];
+    let counts = [item_at(row, 9), item_at(row, 10), item_at(row, 11)];
     match_twig(
-        table(number(row, 1)),
+        table(item_at(row, 1)),
         octet(row, 2),
-        front_bytes(&twig(row), number(row, 3)),
-        front_numbers(&counts, std::num::wrapping_sub_usize(number(row, 0), 8)),
+        front(&twig(row), item_at(row, 3)),
+        front(&counts, item_at(row, 0).wrapping_sub(8)),
         &streams(row, words),
-        front_mut(out, number(row, 8)),
+        front_mut(out, item_at(row, 8)),
     )
 }
 

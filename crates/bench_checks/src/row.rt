@@ -1,26 +1,21 @@
 // What the numbers of a row stand for.
 use bench_names::bench_table;
-use guards::put_word;
 use name_files::read_names;
 use names::Table;
 use wrapping::{half, sum};
 
 // Some numbers of a row put over the front of words; what is not in the row is 0.
 pub fn put_words(row: &[usize], from: usize, many: usize, words: &mut [u16]) {
-    let mut i: usize = 0;
-    while i < many {
-        put_word(words, i, half(row, sum(from, i)));
-        i += 1;
+    for (i, word) in words.iter_mut().take(many).enumerate() {
+        *word = half(row, sum(from, i));
     }
 }
 
 // Names 0 to 63, in a row of a table that has no filler.
 fn all_names() -> [u8; 64] {
     let mut names = [0u8; 64];
-    let mut i: u8 = 0;
-    while i < 64 {
+    for i in 0..64u8 {
         names[i as usize] = i;
-        i += 1;
     }
     names
 }

@@ -1,5 +1,5 @@
 // What the checks print.
-use guards::word;
+use guards::item_at;
 use refusals::{Refusal, Verdict};
 use std::io;
 use wrapping::sum;
@@ -35,19 +35,17 @@ fn component(rt: &impl Print, label: &[u16], i: usize) -> io::Result<()> {
     if 0 < i {
         say(rt, b".")?;
     }
-    say_number(rt, word(label, sum(i, 1)) as usize)
+    say_number(rt, item_at(label, sum(i, 1)) as usize)
 }
 
 // The components joined by dots, the root as a single dot.
 pub fn dotted(rt: &impl Print, label: &[u16]) -> io::Result<()> {
-    let depth = word(label, 0) as usize;
+    let depth = item_at(label, 0) as usize;
     if depth == 0 {
         say(rt, b".")?;
     }
-    let mut i: usize = 0;
-    while i < depth {
+    for i in 0..depth {
         component(rt, label, i)?;
-        i += 1;
     }
     Ok(())
 }

@@ -4,7 +4,7 @@ use crate::row::{put_words, table};
 use crate::show::{dotted, say, say_number, verdict};
 use deletions::delete;
 use entries::enter;
-use guards::{number, put_word, word};
+use guards::{item_at, put};
 use new_stores::new_store;
 use prefixes::{copy, front, front_mut};
 use records::Store;
@@ -31,35 +31,17 @@ pub fn spot(r: usize, w: usize) -> usize {
     sum(r * Store::RECORD_WORDS, w)
 }
 
-// One more if there is a hit.
-pub fn counted(n: usize, hit: bool) -> usize {
-    if hit {
-        return sum(n, 1);
-    }
-    n
-}
-
 // How many words are x.
 pub fn count_of(words: &[u16], x: u16) -> usize {
-    let mut n: usize = 0;
-    let mut i: usize = 0;
-    while i < words.len() {
-        n = counted(n, words[i] == x);
-        i += 1;
-    }
-    n
+    words.iter().filter(|word| **word == x).count()
 }
 
 // Words are the same as the front of others.
 pub fn same(words: &[u16], others: &[u16]) -> bool {
-    let mut i: usize = 0;
-    while i < words.len() {
-        if words[i] != word(others, i) {
-            return false;
-        }
-        i += 1;
-    }
-    true
+    words
+        .iter()
+        .enumerate()
+        .all(|(i, word)| *word == item_at(others, i))
 }
 
 // What a call answered, its count, and whether words are as they were.
@@ -85,7 +67,7 @@ pub fn begin(rt: &impl Print, row: &[usize], words: &mut [u16]) -> io::Result<()
     let filling = half(row, 1);
     let was = [filling; LARGEST];
     copy(words, &was);
-    let c = new_store(front_mut(words, number(row, 2)), octet(row, 3), PAYLOAD);
+    let c = new_store(front_mut(words, item_at(row, 2)), octet(row, 3), PAYLOAD);
     let v = c.verdict;
     outcome(rt, v, c.count, words, &was)
 }
@@ -106,10 +88,10 @@ pub fn entry(rt: &impl Print, row: &[usize], words: &mut [u16]) -> io::Result<()
     let mut parent = [0u16; 17];
     put_words(row, 6, 16, &mut parent);
     let e = enter(
-        table(number(row, 1)),
-        front_mut(words, number(row, 2)),
-        number(row, 3),
-        front(&parent, number(row, 5)),
+        table(item_at(row, 1)),
+        front_mut(words, item_at(row, 2)),
+        item_at(row, 3),
+        front(&parent, item_at(row, 5)),
         octet(row, 4),
         PAYLOAD,
     );
@@ -130,10 +112,10 @@ pub fn deletion(
     let mut label = [0u16; 17];
     put_words(row, 5, 16, &mut label);
     let c = delete(
-        table(number(row, 1)),
-        front_mut(words, number(row, 2)),
-        number(row, 3),
-        front(&label, number(row, 4)),
+        table(item_at(row, 1)),
+        front_mut(words, item_at(row, 2)),
+        item_at(row, 3),
+        front(&label, item_at(row, 4)),
     );
     let v = c.verdict;
     outcome(rt, v, c.count, words, was)
@@ -141,10 +123,10 @@ pub fn deletion(
 
 // A word of a record changed, if the row names it.
 fn change(row: &[usize], at: usize, words: &mut [u16]) {
-    if at < number(row, 0) {
-        let r = number(row, at);
-        let w = number(row, sum(at, 1));
-        put_word(words, spot(r, w), half(row, sum(at, 2)));
+    if at < item_at(row, 0) {
+        let r = item_at(row, at);
+        let w = item_at(row, sum(at, 1));
+        put(words, spot(r, w), half(row, sum(at, 2)));
     }
 }
 
@@ -152,40 +134,38 @@ fn change(row: &[usize], at: usize, words: &mut [u16]) {
 pub fn check(rt: &impl Print, row: &[usize], words: &[u16]) -> io::Result<()> {
     let mut changed = [0u16; LARGEST];
     copy(&mut changed, words);
-    let mut i: usize = 0;
-    while i < CHANGES {
+    for i in 0..CHANGES {
         change(row, 4 + i * 3, &mut changed);
-        i += 1;
     }
-    let store = front(&changed, number(row, 2));
+    let store = front(&changed, item_at(row, 2));
     verdict(
         rt,
-        check_store(table(number(row, 1)), store, number(row, 3)),
+        check_store(table(item_at(row, 1)), store, item_at(row, 3)),
     )
 }
 
 // value RECORD WORD X: a word of a record, first put there if the row has it.
 pub fn value(rt: &impl Print, row: &[usize], words: &mut [u16]) -> io::Result<()> {
-    let at = spot(number(row, 1), number(row, 2));
-    let was = word(words, at);
-    let x = if number(row, 0) == 3 {
+    let at = spot(item_at(row, 1), item_at(row, 2));
+    let was = item_at(words, at);
+    let x = if item_at(row, 0) == 3 {
         half(row, 3)
     } else {
         was
     };
-    put_word(words, at, x);
-    say_number(rt, word(words, at) as usize)
+    put(words, at, x);
+    say_number(rt, item_at(words, at) as usize)
 }
 
 // unchanged WORDS X: how many words are still X.
 pub fn unchanged(rt: &impl Print, row: &[usize], words: &[u16]) -> io::Result<()> {
-    say_number(rt, count_of(front(words, number(row, 1)), half(row, 2)))
+    say_number(rt, count_of(front(words, item_at(row, 1)), half(row, 2)))
 }
 
 // A word of a record behind what is said of it.
 fn say_word(rt: &impl Print, text: &[u8], words: &[u16], r: usize, w: usize) -> io::Result<()> {
     say(rt, text)?;
-    say_number(rt, word(words, spot(r, w)) as usize)
+    say_number(rt, item_at(words, spot(r, w)) as usize)
 }
 
 // A record, on a line of its own.
@@ -202,11 +182,8 @@ fn record(rt: &impl Print, words: &[u16], r: usize) -> io::Result<()> {
 
 // records COUNT: the records in use.
 pub fn records(rt: &impl Print, row: &[usize], words: &[u16]) -> io::Result<()> {
-    let count = number(row, 1);
-    let mut r: usize = 0;
-    while r < count {
+    for r in 0..item_at(row, 1) {
         record(rt, words, r)?;
-        r += 1;
     }
     Ok(())
 }

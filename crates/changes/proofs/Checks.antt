@@ -1,13 +1,14 @@
 -- The checks of store and label that entry and deletion make before their own:
 -- one that refuses refuses the call, else the call's own decide.
 use Prim.Native.Nat.{ℕ, ◌*◌, ◌≤◌}
-use mathlib.Core.Path.{◌≡◌, refl, sym, ap, ◌∙◌}
+use mathlib.Core.Path.{◌≡◌, sym, ap, ◌∙◌}
 use mathlib.Core.Logic.{⊎_elim}
 use mathlib.Core.Bool.{true}
 use mathlib.Core.List.{List, ◌∷◌}
 use mathlib.Core.Option.{Option, none, some}
-use native.Mathlib.Omega.{arith}
 use lib.ListN.{length}
+use Rattle.std.specs.Prelude.{Some}
+use Rattle.std.specs.Prelude as std
 use Rattle.basics.specs.Limits.{record_size}
 use Rattle.basics.specs.Refusals.{Refusal, first, not_label}
 use Rattle.naming.specs.Names.{Table, clues_of, table_check}
@@ -20,28 +21,18 @@ use Rattle.refusals.specs.declared.Refusal.{Refusal as Shown}
 use Rattle.refusals.specs.declared.Verdict.{Verdict}
 use Rattle.refusals.specs.declared.Verdict.TheVariants as verdict
 use Rattle.refusals.proofs.Verdicts.{passed_none, first_refused}
-use Rattle.lookup.specs.declared.Found.{Found}
-use Rattle.lookup.specs.declared.Found.TheVariants as found
-use Rattle.lookup.specs.Places.{place_at, found_of, InLabelOrder}
+use Rattle.bridges.specs.Options.{optional}
+use Rattle.bridges.proofs.Options.{given_some}
+use Rattle.lookup.specs.Places.{place_at, InLabelOrder}
 use Rattle.lookup.proofs.Places.{searchable}
 use Rattle.store_checks.specs.Stores.{store_check}
 use Rattle.store_checks.proofs.Stores.{store_refused, store_passed, store_sound, store_room}
 use Rattle.changes.specs.Answers.{call_check}
 
--- where lookup answered a place, the label has that place
-pub found_at : (o : Option ℕ) {f : Found} {a : ℕ} → f ≡ found.At a → f ≡ found_of o → o ≡ some a
-found_at none g e = absurd (let z : ◌≡◌ {A = ℕ} 0 1 = cc in omega arith)
-found_at (some b) g e = cc
-
 -- where lookup answered a place, the label that the words hold has that place
-pub found_label : (lw : List ℕ) (es : List Element) {l : Label} {f : Found} {a : ℕ} → f ≡ found.At a → l ≡ label_of lw → f ≡ found_of (place_at l es) →
+pub found_label : (lw : List ℕ) (es : List Element) {l : Label} {f : std.Option ℕ} {a : ℕ} → f ≡ Some a → l ≡ label_of lw → f ≡ optional (place_at l es) →
     place_at (label_of lw) es ≡ some a
-found_label lw es g parts looked = found_at (place_at (label_of lw) es) g (looked ∙ ap (λ l. found_of (place_at l es)) parts)
-
--- where lookup answered that there is none, the label has no place
-pub found_absent : (o : Option ℕ) {f : Found} → f ≡ found_of o → f ≡ found.Absent → o ≡ none
-found_absent none e f = refl
-found_absent (some b) e f = absurd (let z : ◌≡◌ {A = ℕ} 0 1 = cc in omega arith)
+found_label lw es g parts looked = given_some (place_at (label_of lw) es) (looked ∙ ap (λ l. optional (place_at l es)) parts) g
 
 module _ (rows : Table) (ws : List ℕ) (count : ℕ) where
   module _ (lw : List ℕ) where

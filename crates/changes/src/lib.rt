@@ -29,6 +29,7 @@ pub fn words_of(rec: &[u16; 20]) -> &[u16]
 }
 
 // The root's record: a name and two payload words, with the next number 0.
+#[tactic(auto, unfolding(storage::specs::Store::element_words, labelling::specs::Labels::label_words))]
 pub fn root_record(root: u8, payload: [u16; 2]) -> [u16; 20]
     ensures { result ≡ element_words (root_element root (get_or payload 0 0) (get_or payload 1 0)) }
 {
@@ -40,6 +41,7 @@ pub fn root_record(root: u8, payload: [u16; 2]) -> [u16; 20]
 }
 
 // The checks before those of a call's own: 22, 18, 19, 23 to 25 and 15.
+#[tactic(auto, using(crate::proofs::Checks::call_unsound, crate::proofs::Checks::call_labelled))]
 pub fn check_call(table: &Table, words: &[u16], count: usize, label: &[u16]) -> Verdict
     ensures { result ≡ verdict_of (call_check table.now words.now count label.now) }
 {

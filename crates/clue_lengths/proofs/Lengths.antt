@@ -1,10 +1,10 @@
 -- The lengths of the clues, row by row, and one of them read.
 use Prim.Native.Nat.{ℕ, suc, ◌+◌, ◌-◌, ◌<◌, ◌≤◌}
-use mathlib.Core.Path.{◌≡◌, refl, sym, ap, ◌∙◌}
+use mathlib.Core.Path.{◌≡◌, sym, ap, ◌∙◌}
 use mathlib.Core.List.{List, [], ◌∷◌, ◌++◌, map-append, append-nil, append_assoc}
 use native.Mathlib.Omega.{arith}
 use native.Mathlib.Numerals.{add-one}
-use lib.ListN.{length, get_or, take, set, replicate, length-map, get_or-map, get_or-eq_default}
+use lib.ListN.{length, get_or, take, set, replicate, length-map, get_or-map}
 use lib.Seq.{take-suc, take_all, length-take-le, set_at}
 use Rattle.basics.specs.Limits.{table_size}
 use Rattle.naming.specs.Names.{Table, names_of, clues_of}
@@ -14,10 +14,6 @@ use Rattle.clue_lengths.specs.Lengths.{lengths_of}
 pub lengths_at : (rows : Table) (p : ℕ) → get_or (lengths_of rows) p 0 ≡ length (clues_of rows p)
 unfolding lengths_of clues_of names_of
 lengths_at rows p = get_or-map (λ row. length (names_of row)) rows p []
-
--- a number past the last length reads as 0
-pub length_past : (lengths : List ℕ) (p : ℕ) → length lengths ≤ p → 0 ≡ get_or lengths p 0
-length_past lengths p h = sym (get_or-eq_default lengths 0 h)
 
 -- a length read from those of all clues is the clue's
 pub length_is : (rows : Table) {lengths : List ℕ} {n : ℕ} (p : ℕ) → lengths ≡ lengths_of rows → n ≡ get_or lengths p 0 → n ≡ length (clues_of rows p)
@@ -30,11 +26,6 @@ lengths_lent rows e f = e ∙ f
 -- the lengths of the first p clues are written
 abbrev pub Written : Table → ℕ → List ℕ → Type 0
 Written rows p lengths = lengths ≡ lengths_of (take p rows) ++ replicate (table_size - p) 0
-
--- at first no length is written
-pub lengths_start : (rows : Table) → Written rows 0 (replicate table_size 0)
-unfolding lengths_of
-lengths_start rows = refl
 
 module _ (rows : Table) (p : ℕ) {lengths : List ℕ} (written : Written rows p lengths) (size : length rows ≡ table_size) where
   -- past the last row the lengths of all clues are written

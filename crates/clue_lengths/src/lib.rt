@@ -4,19 +4,16 @@
 ghost use Rattle.std.specs.Prelude.{◌≡◌, length, get_or};
 ghost use Rattle.clue_lengths.specs.Lengths.{lengths_of};
 
-use names::{Table, row_len, rows_of, whole};
+use names::{Table, row_len};
 
 // How many names each clue has.
+#[tactic(auto, using(crate::proofs::Lengths::lengths_on, crate::proofs::Lengths::lengths_end), unfolding(crate::specs::Lengths::lengths_of))]
 pub fn lengths_of(table: &Table) -> [usize; 64]
     ensures { result ≡ lengths_of table.now }
 {
-    let rows = rows_of(table);
     let mut lengths = [0usize; 64];
-    let mut i: usize = 0;
-    while i < rows.len() {
-        let row = rows[i];
-        lengths[i] = row_len(whole(&row));
-        i += 1;
+    for (i, row) in table.iter().enumerate() {
+        lengths[i] = row_len(row);
     }
     lengths
 }
@@ -32,8 +29,5 @@ pub fn lengths_slice(lengths: &[usize; 64]) -> &[usize]
 pub fn length_of(lengths: &[usize], parent: usize) -> usize
     ensures { result ≡ get_or lengths.now parent 0 }
 {
-    if lengths.len() <= parent {
-        return 0;
-    }
-    lengths[parent]
+    lengths.get(parent).copied().unwrap_or(0)
 }

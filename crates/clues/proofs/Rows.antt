@@ -5,17 +5,14 @@ use mathlib.Core.List.{List, [], ◌∷◌}
 use mathlib.Core.Option.{Option, none, some, map}
 use native.Mathlib.Omega.{arith}
 use native.Mathlib.Nat.{zero-add, mod-lt, pos_of_ne-zero}
-use lib.ListN.{length, get_or, drop, replicate, get_or-eq_default}
+use lib.ListN.{length, get_or, drop, get_or-eq_default}
 use lib.Seq.{get_or-take}
 use borrow.Author.Tests.{eq-eqb, ne_eqb}
-use Rattle.basics.specs.Limits.{filler, table_size}
+use Rattle.basics.specs.Limits.{filler}
 use Rattle.naming.specs.Names.{Table, names_of, clues_of, place_in, led}
 use Rattle.names.proofs.Rows.{names_end, names_stop, names_on, take_names, names_short}
-use Rattle.clues.specs.Answers.{place_answer, child_of}
-use Rattle.clues.specs.declared.Place.{Place}
-use Rattle.clues.specs.declared.Place.TheVariants as place
-use Rattle.clues.specs.declared.Child.{Child}
-use Rattle.clues.specs.declared.Child.TheVariants as child
+use Rattle.std.specs.Prelude.{Some, None}
+use Rattle.bridges.specs.Options.{optional}
 
 -- a place in the rest of a row from i on, counted from the row's start
 abbrev pub shifted : ℕ → Option ℕ → Option ℕ
@@ -40,38 +37,36 @@ module _ (c : ℕ) (row : List ℕ) (i : ℕ) where
 
   module _ (inv : Searched) where
     -- a search that has come to the row's end has not found the name
-    pub search_end : length row ≤ i → place.Absent ≡ place_answer (place_in c (names_of row))
+    pub search_end : length row ≤ i → None ≡ optional (place_in c (names_of row))
     unfolding place_in
     search_end h = rw (inv, names_end row i h)
 
     module _ (h : i < length row) where
       -- a search that has come to the filler has not found the name
-      pub search_stop : get_or row i 0 ≡ filler → place.Absent ≡ place_answer (place_in c (names_of row))
+      pub search_stop : get_or row i 0 ≡ filler → None ≡ optional (place_in c (names_of row))
       unfolding place_in
       search_stop e = rw (inv, names_stop row i h e)
 
       module _ (go : get_or row i 0 ≡ filler → ⊥) where
         -- a search that finds the name at place i answers i
-        pub search_here : get_or row i 0 ≡ c → place.At i ≡ place_answer (place_in c (names_of row))
+        pub search_here : get_or row i 0 ≡ c → Some i ≡ optional (place_in c (names_of row))
         unfolding place_in
-        search_here e = rw (inv, names_on row i h go, eq-eqb _ _ e) (ap place.At (omega arith))
+        search_here e = rw (inv, names_on row i h go, eq-eqb _ _ e) (ap Some (omega arith))
 
         -- where another number stands at place i, the search goes on
         pub search_on : (get_or row i 0 ≡ c → ⊥) → place_in c (names_of row) ≡ shifted (i + 1) (place_in c (names_of (drop (i + 1) row)))
         unfolding place_in
         search_on e = rw (inv, names_on row i h go, ne_eqb _ _ e) (shift_more i (place_in c (names_of (drop (i + 1) row))))
 
--- the clue of a number, by its row
-module _ (table : Table) (p : ℕ) {rows : Table} (same : rows ≡ table) where
-  -- a number past the last row has the clue of a row of filler alone
-  pub clue_none : length rows ≤ p → names_of (replicate table_size filler) ≡ clues_of table p
-  unfolding clues_of names_of
-  clue_none h = rw (← same, get_or-eq_default)
+-- a number past the last row has no names
+pub clue_none : (table : Table) (p : ℕ) → length table ≤ p → names_of [] ≡ clues_of table p
+unfolding clues_of names_of
+clue_none table p h = rw get_or-eq_default
 
-  -- a name has the clue of its row
-  pub clue_is : names_of (get_or rows p []) ≡ clues_of table p
-  unfolding clues_of
-  clue_is = rw same
+-- a name has the names of its row
+pub clue_is : (table : Table) (p : ℕ) {row : List ℕ} → row ≡ get_or table p [] → names_of row ≡ clues_of table p
+unfolding clues_of
+clue_is table p e = ap names_of e
 
 -- a name stands in its row where it stands among the names
 names_at : (row : List ℕ) (i : ℕ) → i < length (names_of row) → get_or (names_of row) i 0 ≡ get_or row i 0
@@ -92,7 +87,7 @@ led_some (y ∷ l) x e = refl
 -- a component picks a name from a row of n names
 module _ (row : List ℕ) (x : ℕ) {n : ℕ} (is : n ≡ length (names_of row)) where
   -- in a row of no names a component leads nowhere
-  pub pick_none : n ≡ 0 → child.Nowhere ≡ child_of (led (names_of row) x)
+  pub pick_none : n ≡ 0 → None ≡ optional (led (names_of row) x)
   pick_none e = rw (led_none (names_of row) x (sym is ∙ e))
 
   module _ (some_left : n ≡ 0 → ⊥) where
@@ -105,23 +100,5 @@ module _ (row : List ℕ) (x : ℕ) {n : ℕ} (is : n ≡ length (names_of row))
     pick_in = omega (arith, pick_below, names_short row)
 
     -- the component leads to the name at its remainder
-    pub pick_some : child.Name (get_or row (x % n) 0) ≡ child_of (led (names_of row) x)
+    pub pick_some : Some (get_or row (x % n) 0) ≡ optional (led (names_of row) x)
     pick_some = rw (led_some (names_of row) x (λ e. some_left (is ∙ e)), ← is, names_at row (x % n) pick_below)
-
--- what is read of a copy of a name's row is read of the name's clue
-module _ {clue copy row : List ℕ} (is : names_of copy ≡ clue) (same : row ≡ copy) where
-  -- the row has as many names as the clue
-  pub clue_size : {n : ℕ} → n ≡ length clue → n ≡ length (names_of row)
-  clue_size e = rw (same, is) e
-
-  -- the clue has as many names as the row
-  pub clue_count : {n : ℕ} → n ≡ length (names_of row) → n ≡ length clue
-  clue_count e = rw (← is, ← same) e
-
-  -- a name has the place in the clue that it has in the row
-  pub clue_place : (c : ℕ) {r : Place} → r ≡ place_answer (place_in c (names_of row)) → r ≡ place_answer (place_in c clue)
-  clue_place c e = rw (← is, ← same) e
-
-  -- a component picks the same name from the clue and from the row
-  pub clue_child : (x : ℕ) {r : Child} → r ≡ child_of (led (names_of row) x) → r ≡ child_of (led clue x)
-  clue_child x e = rw (← is, ← same) e

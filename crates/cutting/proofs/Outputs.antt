@@ -18,7 +18,7 @@ unfoldable pub written : List Label → ℕ → List ℕ → List ℕ
 written ls n out = take (label_size * n) out ++ over (labels_words ls) (drop (label_size * n) out)
 
 -- at the start all labels are to come
-pub written_from : (ls : List Label) (out : List ℕ) → over (labels_words ls) out ≡ written ls 0 out
+pub written_from : (ls : List Label) (out : List ℕ) → written ls 0 out ≡ over (labels_words ls) out
 unfolding written
 written_from ls out = refl
 

@@ -7,6 +7,8 @@ use native.Mathlib.Numerals.{add-one}
 use native.Mathlib.Omega.{arith}
 use lib.ListN.{length, get_or, take, drop, set, replicate, take-append-drop, length-append}
 use lib.Seq.{take_all, take-suc, set_at}
+use Rattle.std.specs.Prelude.{Some, None}
+use Rattle.std.specs.Prelude as std
 use Rattle.basics.specs.Basics.{elim?, last}
 use Rattle.basics.specs.Limits.{max_depth, label_size}
 use Rattle.basics.specs.Refusals.{refuse, empty_clue}
@@ -14,10 +16,8 @@ use Rattle.naming.specs.Names.{Clues, led}
 use Rattle.labelling.specs.Labels.{Label, path, stuck, decode, path_check, names_in}
 use Rattle.basics.proofs.Lists.{last_snoc}
 use Rattle.labelling.proofs.Decode.{further, decode_snoc, decode_child, stuck_more}
-use Rattle.clues.specs.Answers.{child_of}
-use Rattle.clues.proofs.Children.{child_name, child_nowhere}
-use Rattle.clues.specs.declared.Child.{Child}
-use Rattle.clues.specs.declared.Child.TheVariants as child
+use Rattle.bridges.specs.Options.{optional}
+use Rattle.bridges.proofs.Options.{given_some, given_none}
 use Rattle.refusals.specs.declared.Verdict.{Verdict}
 use Rattle.refusals.specs.declared.Verdict.TheVariants as verdict
 use Rattle.refusals.specs.Answers.{verdict_of}
@@ -53,22 +53,22 @@ module _ (cl : Clues) (root : ℕ) (l : Label) (p i : ℕ) (names : List ℕ) (w
     next = ap (λ n. take n l) (add-one i) ∙ take-suc l i 0 h
 
     -- a component that leads nowhere is refused, 16 at the component
-    pub walk_stuck : {x : Child} {u : Verdict} {r : Decoding} → x ≡ child_of (led (cl p) (get_or l i 0)) → x ≡ child.Nowhere →
+    pub walk_stuck : {x : std.Option ℕ} {u : Verdict} {r : Decoding} → x ≡ optional (led (cl p) (get_or l i 0)) → x ≡ None →
         u ≡ verdict_of (refuse empty_clue (i + 1)) → r ≡ decoding_refused u → r ≡ decoded_by (decode cl root l)
     unfolding path_check names_in further elim?
     walk_stuck e nowhere g f =
         let now : decode cl root (take (i + 1) l) ≡ stuck (i + 1) =
         ap (decode cl root) next ∙ decode_snoc cl root (take i l) (get_or l i 0) ∙
-        rw (w.decoded, w.reached, ← child_nowhere (led (cl p) (get_or l i 0)) e nowhere, w.many) in
+        rw (w.decoded, w.reached, given_none (led (cl p) (get_or l i 0)) e nowhere, w.many) in
         let all : decode cl root l ≡ stuck (i + 1) =
         ap (decode cl root) (sym (take-append-drop (i + 1) l)) ∙ stuck_more cl root (take (i + 1) l) (drop (i + 1) l) (i + 1) now in
         f ∙ ap decoding_refused g ∙ sym (ap decoded_by all)
 
     -- a component that leads to a name puts it into the next place
-    pub walk_on : {x : Child} {c : ℕ} → x ≡ child_of (led (cl p) (get_or l i 0)) → x ≡ child.Name c → length l ≤ max_depth →
+    pub walk_on : {x : std.Option ℕ} {c : ℕ} → x ≡ optional (led (cl p) (get_or l i 0)) → x ≡ Some c → length l ≤ max_depth →
         Walked cl root l c (i + 1) (set names (i + 1) c)
     walk_on {x} {c} e named short =
-        let leads : led (cl (last w.so_far)) (get_or l i 0) ≡ some c = ap (λ n. led (cl n) (get_or l i 0)) w.reached ∙ sym (child_name _ e named) in
+        let leads : led (cl (last w.so_far)) (get_or l i 0) ≡ some c = ap (λ n. led (cl n) (get_or l i 0)) w.reached ∙ given_some _ e named in
         let left : max_depth - i ≡ suc (max_depth - (i + 1)) = omega arith in
         record {
           so_far = w.so_far ++ (c ∷ []);

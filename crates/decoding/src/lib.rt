@@ -6,7 +6,7 @@ ghost use Rattle.naming.specs.Names.{clues_of};
 ghost use Rattle.labelling.specs.Labels as spec;
 ghost use Rattle.decoding.specs.Answers.{decoding_refused, decoded_by, decoding_of};
 
-use clues::{Child, child_of};
+use clues::child_of;
 use labels::{components, is_label};
 use names::{MAX_NAME, Table};
 use refusals::{Refusal, Verdict, refuse};
@@ -30,21 +30,20 @@ fn refused(verdict: Verdict) -> Decoding
 }
 
 // The names along components, from a root name on.
+#[tactic(auto, using(crate::proofs::Steps::walk_on))]
 fn walk(table: &Table, root: u8, parts: &[u16]) -> Decoding
     requires { length parts.now ≤ 15 }
     ensures { result ≡ decoded_by (spec.decode (clues_of table.now) root parts.now) }
 {
     let mut names = [0u8; 16];
     names[0] = root;
-    let mut p = root as usize;
-    let mut i: usize = 0;
-    while i < parts.len() {
-        let Child::Name(c) = child_of(table, p, parts[i]) else {
+    let mut parent = root;
+    for (i, component) in parts.iter().enumerate() {
+        let Some(child) = child_of(table, parent as usize, *component) else {
             return refused(refuse(Refusal::EMPTY_CLUE, i + 1));
         };
-        p = c as usize;
-        i += 1;
-        names[i] = c;
+        parent = child;
+        names[i + 1] = child;
     }
     Decoding {
         verdict: Verdict::Passed,
@@ -53,6 +52,7 @@ fn walk(table: &Table, root: u8, parts: &[u16]) -> Decoding
 }
 
 // Decoding: 22, 21, 15, 16.
+#[tactic(auto, using(crate::proofs::Answers::high_root, crate::proofs::Answers::no_label, labels::proofs::Steps::known_label, crate::proofs::Answers::label_decoded))]
 pub fn decode(table: Table, root: u8, label: &[u16]) -> Decoding
     ensures { result ≡ decoding_of (spec.decode_call table root label.now) }
 {

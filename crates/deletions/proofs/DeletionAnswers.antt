@@ -7,6 +7,8 @@ use mathlib.Core.Option.{none, some}
 use native.Mathlib.Omega.{arith}
 use lib.ListN.{length}
 use lib.Dec.{ltb→lt, lt→ltb}
+use Rattle.std.specs.Prelude.{Some, None}
+use Rattle.std.specs.Prelude as std
 use Rattle.basics.specs.Basics.{elim?, leading}
 use Rattle.basics.specs.Refusals.{Refusal, refuse, first, no_record, root_stays}
 use Rattle.naming.specs.Names.{Table, clues_of}
@@ -20,15 +22,15 @@ use Rattle.refusals.specs.declared.Verdict.{Verdict}
 use Rattle.refusals.specs.declared.Verdict.TheVariants as verdict
 use Rattle.refusals.proofs.Verdicts.{refused_some}
 use Rattle.moving.specs.Moves.{removed}
-use Rattle.lookup.specs.declared.Found.{Found}
-use Rattle.lookup.specs.declared.Found.TheVariants as found
-use Rattle.lookup.specs.Places.{place_at, found_of, passes, InLabelOrder}
+use Rattle.bridges.specs.Options.{optional}
+use Rattle.bridges.proofs.Options.{given_some, given_none}
+use Rattle.lookup.specs.Places.{place_at, passes, InLabelOrder}
 use Rattle.lookup.proofs.Places.{place_before_end}
 use Rattle.changes.specs.Answers.{call_check, Changed, changed, change_of}
 use Rattle.deletions.specs.Answers.{subtree_removed}
 use Rattle.changes.proofs.InUse.{end_used, find_absent, find_found}
 use Rattle.deletions.proofs.Deletions.{delete_count, delete_words}
-use Rattle.changes.proofs.Checks.{found_at, found_absent, call_refused, call_passed, call_sound, call_room, checks_passed}
+use Rattle.changes.proofs.Checks.{call_refused, call_passed, call_sound, call_room, checks_passed}
 
 module _ (count : ℕ) (ws : List ℕ) (l : Label) (a : ℕ) (can : InLabelOrder count ws) (at : place_at l (elements count ws) ≡ some a)
     {end : ℕ} (ends : end ≡ leading (passes true l) (elements count ws)) where
@@ -81,24 +83,24 @@ module _ (rows : Table) (ws : List ℕ) (count : ℕ) (lw : List ℕ) where
         unfolding root_stays_check
         delete_root h f = deletion_refused (to_root ∙ first_here _ _ _ (check_failed _ root_stays 0 (λ t. omega (arith, ltb→lt 0 (length l) t)))) f
 
-        module _ (below : length l ≡ 0 → ⊥) {f : Found} (looked : f ≡ found_of (place_at l (elements count ws))) where
+        module _ (below : length l ≡ 0 → ⊥) {f : std.Option ℕ} (looked : f ≡ optional (place_at l (elements count ws))) where
           -- where the label is not the root's, whether a record has the label decides
           to_found : deletion_refusal rows ws count lw ≡ found_check (find l (elements count ws))
           unfolding root_stays_check
           to_found = to_root ∙ first_next _ _ (check_passed _ root_stays 0 (lt→ltb 0 (length l) (omega arith)))
 
           -- where no record has the label, 9 is answered
-          pub delete_absent : {w : Verdict} → f ≡ found.Absent → w ≡ verdict_of (refuse no_record 0) →
+          pub delete_absent : {w : Verdict} → f ≡ None → w ≡ verdict_of (refuse no_record 0) →
               changed (record { verdict = w; count = count }) ws ≡ change_of (delete rows ws count lw)
           unfolding found_check
-          delete_absent g h = deletion_refused (to_found ∙ ap found_check (find_absent count ws l (found_absent _ looked g))) h
+          delete_absent g h = deletion_refused (to_found ∙ ap found_check (find_absent count ws l (given_none _ looked g))) h
 
           -- where a record has the label, the records of its subtree are taken out
-          pub delete_done : {a : ℕ} {y : Changed} → f ≡ found.At a → y ≡ subtree_removed ws count a l → y ≡ change_of (delete rows ws count lw)
+          pub delete_done : {a : ℕ} {y : Changed} → f ≡ Some a → y ≡ subtree_removed ws count a l → y ≡ change_of (delete rows ws count lw)
           unfolding delete elim? found_check
           delete_done {a} g h =
               let room = call_room rows ws count lw passed in
               let sound = call_sound rows ws count lw passed in
-              let at = found_at _ g looked in
+              let at = given_some _ looked g in
               let free : deletion_refusal rows ws count lw ≡ none = to_found ∙ ap found_check (find_found count ws l a at) in
               h ∙ rw (free, ← parts, delete_words (clues_of rows) count ws l a sound room at, delete_count (clues_of rows) count ws l a sound room at)

@@ -4,6 +4,8 @@ use mathlib.Core.Path.{◌≡◌, refl, sym, ap, ap₂, ◌∙◌}
 use mathlib.Core.List.{List, [], ◌∷◌, ◌++◌}
 use mathlib.Core.Option.{Option, none, some}
 use lib.ListN.{length, replicate}
+use Rattle.std.specs.Prelude.{Some, None}
+use Rattle.std.specs.Prelude as std
 use Rattle.basics.specs.Basics.{elim?, over}
 use Rattle.basics.specs.Limits.{max_depth, label_size}
 use Rattle.basics.specs.Refusals.{Refusal, refuse, first, no_record}
@@ -20,16 +22,16 @@ use Rattle.refusals.specs.declared.Verdict.{Verdict}
 use Rattle.refusals.specs.declared.Verdict.TheVariants as verdict
 use Rattle.refusals.proofs.Verdicts.{refused_some}
 use Rattle.records.specs.Records.{record_at}
-use Rattle.lookup.specs.declared.Found.{Found}
-use Rattle.lookup.specs.declared.Found.TheVariants as found
-use Rattle.lookup.specs.Places.{place_at, found_of}
+use Rattle.bridges.specs.Options.{optional}
+use Rattle.bridges.proofs.Options.{given_none}
+use Rattle.lookup.specs.Places.{place_at}
 use Rattle.changes.specs.Answers.{call_check}
 use Rattle.additions.specs.declared.Entry.{Entry}
 use Rattle.additions.specs.Answers.{Entered, entry_and_words, refused_entry, child_answer, child_added}
 use Rattle.entries.specs.Answers.{entry_of, entered_below}
 use Rattle.changes.proofs.InUse.{find_absent, find_found, parent_read, parent_label_lem, label_high}
 use Rattle.entries.proofs.Entries.{enter_words}
-use Rattle.changes.proofs.Checks.{found_label, found_absent, call_refused, call_passed, call_sound, checks_passed}
+use Rattle.changes.proofs.Checks.{found_label, call_refused, call_passed, call_sound, checks_passed}
 use Rattle.entries.proofs.Gifts.{passed_high}
 
 -- an entry that is refused answers the refusal, and leaves the words
@@ -90,7 +92,7 @@ module _ (rows : Table) (ws : List ℕ) (count : ℕ) (lw : List ℕ) (name p0 p
       let (r, g) = refused_some (call_check rows ws count lw) checked f in
       entry_refused rows ws count lw name p0 p1 (call_refused rows ws count lw _ r g) (checked ∙ ap verdict_of g) h
 
-  module _ (good : v ≡ verdict.Passed) {l : Label} (parts : l ≡ label_of lw) {f : Found} (looked : f ≡ found_of (place_at l (elements count ws))) where
+  module _ (good : v ≡ verdict.Passed) {l : Label} (parts : l ≡ label_of lw) {f : std.Option ℕ} (looked : f ≡ optional (place_at l (elements count ws))) where
     -- where table, store and label pass, the parent that is found and the space decide
     to_parent : (o : Option Element) → find (label_of lw) (elements count ws) ≡ o →
         spec.entry_refusal rows ws count lw name ≡ first (spec.parent_check (clues_of rows) o name ∷ spec.space_check (length ws) count ∷ [])
@@ -100,14 +102,14 @@ module _ (rows : Table) (ws : List ℕ) (count : ℕ) (lw : List ℕ) (name p0 p
         ap (λ o. first (spec.parent_check (clues_of rows) o name ∷ spec.space_check (length ws) count ∷ [])) e
 
     -- where no record has the label, 9 is answered
-    pub enter_absent : {w : Verdict} {e : Entry} → f ≡ found.Absent → w ≡ verdict_of (refuse no_record 0) → e ≡ refused_entry w count →
+    pub enter_absent : {w : Verdict} {e : Entry} → f ≡ None → w ≡ verdict_of (refuse no_record 0) → e ≡ refused_entry w count →
         entry_and_words e ws ≡ entry_of (spec.enter rows ws count lw name p0 p1)
     enter_absent g h =
-        let nowhere = find_absent count ws (label_of lw) (found_absent _ (looked ∙ ap (λ l. found_of (place_at l (elements count ws))) parts) g) in
+        let nowhere = find_absent count ws (label_of lw) (given_none _ (looked ∙ ap (λ l. optional (place_at l (elements count ws))) parts) g) in
         entry_refused rows ws count lw name p0 p1 (to_parent none nowhere ∙ first_here _ _ _ (parent_nine (clues_of rows) name)) h
 
     -- where a record has the label, the entry is what the parent answers
-    pub enter_done : {a : ℕ} {y : Entered} → f ≡ found.At a → y ≡ entered_below (clues_of rows) ws count a (label_of lw) name p0 p1 →
+    pub enter_done : {a : ℕ} {y : Entered} → f ≡ Some a → y ≡ entered_below (clues_of rows) ws count a (label_of lw) name p0 p1 →
         y ≡ entry_of (spec.enter rows ws count lw name p0 p1)
     unfolding entered_below
     enter_done {a} g h =

@@ -10,6 +10,8 @@ use native.Mathlib.Decide.{dec_lt}
 use lib.ListN.{length, get_or}
 use lib.Dec.{T, leb, leb→le, le→leb}
 use borrow.Author.Tests.{lt-ltb}
+use Rattle.std.specs.Prelude.{Some, None, Result, Ok, Err}
+use Rattle.std.specs.Prelude as std
 use Rattle.basics.specs.Basics.{◌∈◌, elim?}
 use Rattle.basics.specs.Limits.{max_component, max_depth, record_size, name_word, next_word}
 use Rattle.basics.specs.Refusals.{Refusal, not_in_clue, too_deep, no_number}
@@ -23,36 +25,30 @@ use Rattle.store_calls.proofs.Parents.{parent_ten, parent_eleven, parent_twelve,
 use Rattle.refusals.specs.Answers.{refusal_of, verdict_of}
 use Rattle.refusals.specs.declared.Refusal.{Refusal as Shown}
 use Rattle.refusals.specs.declared.Verdict.TheVariants as verdict
-use Rattle.clues.specs.Answers.{place_answer}
-use Rattle.clues.proofs.Children.{place_at_lem, place_absent}
-use Rattle.clues.specs.declared.Place.{Place}
-use Rattle.clues.specs.declared.Place.TheVariants as place
+use Rattle.bridges.specs.Options.{optional}
+use Rattle.bridges.proofs.Options.{given_some, given_none}
 use Rattle.numbers.specs.Answers.{number_answer, number_for}
-use Rattle.numbers.specs.declared.Number.{Number}
-use Rattle.numbers.specs.declared.Number.TheVariants as number
 use Rattle.records.specs.Records.{record_at}
 use Rattle.records.proofs.Parts.{record_word, record_label, record_long}
 use Rattle.additions.specs.declared.Entry.{Entry}
 use Rattle.additions.specs.Answers.{Entered, entry_and_words, refused_entry, child_added}
-use Rattle.entries.specs.declared.Gift.{Gift}
-use Rattle.entries.specs.declared.Gift.TheVariants as gift
 use Rattle.entries.specs.Answers.{gift_by, gift_of, entered_below}
 
 -- a number that was given is the one asked for, and a component
-number_given : (y : ℕ) {x : ℕ} {r : Number} → r ≡ number_answer y → r ≡ number.Given x → (x ≡ y) × (y ≤ max_component)
+number_given : (y : ℕ) {x : ℕ} {r : std.Option ℕ} → r ≡ number_answer y → r ≡ Some x → (x ≡ y) × (y ≤ max_component)
 unfolding number_answer
 number_given y {x} {r} p q = go (leb y max_component) (leb→le y max_component) p
   where
-    go : (c : Bool) → (T c → y ≤ max_component) → r ≡ cond c (number.Given y) number.NoneLeft → (x ≡ y) × (y ≤ max_component)
+    go : (c : Bool) → (T c → y ≤ max_component) → r ≡ cond c (Some y) None → (x ≡ y) × (y ≤ max_component)
     go true h p = (cc, h tt)
     go false h p = absurd (let z : ◌≡◌ {A = ℕ} 0 1 = cc in omega arith)
 
 -- where no number was given, the one asked for is over 65,534
-number_left : (y : ℕ) {r : Number} → r ≡ number_answer y → r ≡ number.NoneLeft → max_component < y
+number_left : (y : ℕ) {r : std.Option ℕ} → r ≡ number_answer y → r ≡ None → max_component < y
 unfolding number_answer
 number_left y {r} p q = go (leb y max_component) (le→leb y max_component) p
   where
-    go : (c : Bool) → (y ≤ max_component → T c) → r ≡ cond c (number.Given y) number.NoneLeft → max_component < y
+    go : (c : Bool) → (y ≤ max_component → T c) → r ≡ cond c (Some y) None → max_component < y
     go true h p = absurd (let z : ◌≡◌ {A = ℕ} 0 1 = cc in omega arith)
     go false h p = by_cases (dec_lt max_component y) (λ k. k) (λ k. absurd (h (omega arith)))
 
@@ -77,32 +73,32 @@ module _ (rows : Table) (ws : List ℕ) (a name : ℕ) where
     unfolding read_element
     parent_depth = ap length (sym (record_label ws a low)) ∙ record_long ws a low room
 
-    module _ {r : Place} (is : r ≡ place_answer (place_in name (clues_of rows (get_or ws (a * record_size + name_word) 0)))) where
+    module _ {r : std.Option ℕ} (is : r ≡ optional (place_in name (clues_of rows (get_or ws (a * record_size + name_word) 0)))) where
       -- the place that was answered is that of the name in the clue of the parent's name
-      place_is : r ≡ place_answer (place_in name (clues_of rows parent.name))
-      place_is = is ∙ ap (λ n. place_answer (place_in name (clues_of rows n))) (sym parent_name)
+      place_is : r ≡ optional (place_in name (clues_of rows parent.name))
+      place_is = is ∙ ap (λ n. optional (place_in name (clues_of rows n))) (sym parent_name)
 
       -- a name that is not in the clue is refused by 10
-      pub gift_absent : r ≡ place.Absent → gift.Refused (record { number = not_in_clue; place = 0 }) ≡ gift_of (clues_of rows) parent name
+      pub gift_absent : r ≡ None → Err (record { number = not_in_clue; place = 0 }) ≡ gift_of (clues_of rows) parent name
       gift_absent f =
           ap (λ o. gift_by o (spec.given (clues_of rows) parent name))
-          (sym (parent_ten (clues_of rows) parent name ((place_in_none name (clues_of rows parent.name)).0 (place_absent _ place_is f))))
+          (sym (parent_ten (clues_of rows) parent name ((place_in_none name (clues_of rows parent.name)).0 (given_none _ place_is f))))
 
-      module _ {k : ℕ} (at : r ≡ place.At k) where
+      module _ {k : ℕ} (at : r ≡ Some k) where
         -- the name has the place k in the clue
         placed : place_in name (clues_of rows parent.name) ≡ some k
-        placed = place_at_lem _ place_is at
+        placed = given_some _ place_is at
 
         -- the name is in the clue
         in_clue_lem : name ∈ clues_of rows parent.name
         in_clue_lem = let (h, e) = placed_at name (clues_of rows parent.name) k placed in (member_at 0 (clues_of rows parent.name) name).1 (k, h, e)
 
         -- a parent at depth 15 is refused by 11
-        pub gift_deep : max_depth ≤ get_or ws (a * record_size) 0 → gift.Refused (record { number = too_deep; place = 0 }) ≡ gift_of (clues_of rows) parent name
+        pub gift_deep : max_depth ≤ get_or ws (a * record_size) 0 → Err (record { number = too_deep; place = 0 }) ≡ gift_of (clues_of rows) parent name
         gift_deep h =
             ap (λ o. gift_by o (spec.given (clues_of rows) parent name)) (sym (parent_eleven (clues_of rows) parent name in_clue_lem (omega (arith, parent_depth))))
 
-        module _ (high : get_or ws (a * record_size) 0 < max_depth) {n : ℕ} {m : Number} (counted : n ≡ length (clues_of rows (get_or ws (a * record_size + name_word) 0)))
+        module _ (high : get_or ws (a * record_size) 0 < max_depth) {n : ℕ} {m : std.Option ℕ} (counted : n ≡ length (clues_of rows (get_or ws (a * record_size + name_word) 0)))
             (asked : m ≡ number_for n k (get_or ws (a * record_size + next_word) 0)) where
           -- the number asked for is the one that the parent gives
           number_asked : m ≡ number_answer (spec.given (clues_of rows) parent name)
@@ -113,25 +109,25 @@ module _ (rows : Table) (ws : List ℕ) (a name : ℕ) where
               rw placed (asked ∙ rw (lt-ltb k n inside, long, parent_next))
 
           -- where no number is left, 12 is answered
-          pub gift_none : m ≡ number.NoneLeft → gift.Refused (record { number = no_number; place = 0 }) ≡ gift_of (clues_of rows) parent name
+          pub gift_none : m ≡ None → Err (record { number = no_number; place = 0 }) ≡ gift_of (clues_of rows) parent name
           gift_none f =
               ap (λ o. gift_by o (spec.given (clues_of rows) parent name))
               (sym (parent_twelve (clues_of rows) parent name in_clue_lem (omega (arith, parent_depth)) (number_left _ number_asked f)))
 
           -- where a number is given, the parent gives it
-          pub gift_given : {x : ℕ} → m ≡ number.Given x → gift.Number x ≡ gift_of (clues_of rows) parent name
+          pub gift_given : {x : ℕ} → m ≡ Some x → Ok x ≡ gift_of (clues_of rows) parent name
           gift_given f =
               let (e, h) = number_given _ number_asked f in
-              ap gift.Number e ∙
+              ap Ok e ∙
               ap (λ o. gift_by o (spec.given (clues_of rows) parent name)) (sym (parent_passed (clues_of rows) parent name in_clue_lem (omega (arith, parent_depth)) h))
 
 -- where a parent gives a number, nothing is refused and the number is the one defined
-gift_number : (o : Option Refusal) (y : ℕ) {m : Gift} {x : ℕ} → m ≡ gift_by o y → m ≡ gift.Number x → (o ≡ none) × (x ≡ y)
+gift_number : (o : Option Refusal) (y : ℕ) {m : Result ℕ Shown} {x : ℕ} → m ≡ gift_by o y → m ≡ Ok x → (o ≡ none) × (x ≡ y)
 gift_number none y e f = (refl, cc)
 gift_number (some r) y e f = absurd (let z : ◌≡◌ {A = ℕ} 0 1 = cc in omega arith)
 
 -- where a parent refuses, its refusal is the one defined
-gift_refused : (o : Option Refusal) (num : ℕ) {m : Gift} {s : Shown} → m ≡ gift_by o num → m ≡ gift.Refused s → (ws : List ℕ) (count : ℕ) (y : Entered) →
+gift_refused : (o : Option Refusal) (num : ℕ) {m : Result ℕ Shown} {s : Shown} → m ≡ gift_by o num → m ≡ Err s → (ws : List ℕ) (count : ℕ) (y : Entered) →
     entry_and_words (refused_entry (verdict.Refused s) count) ws ≡ elim? o y (λ r. entry_and_words (refused_entry (verdict_of (some r)) count) ws)
 unfolding elim?
 gift_refused none num e f ws count y = absurd (let z : ◌≡◌ {A = ℕ} 0 1 = cc in omega arith)
@@ -155,7 +151,7 @@ module _ (cl : Clues) (p : Element) (name : ℕ) where
     pub passed_high : length p.label < max_depth
     passed_high = subst (λ (q : Element). length q.label < max_depth) same_parent facts.high
 
-  module _ {m : Gift} {x : ℕ} (gave : m ≡ gift_of cl p name) (h : m ≡ gift.Number x) where
+  module _ {m : Result ℕ Shown} {x : ℕ} (gave : m ≡ gift_of cl p name) (h : m ≡ Ok x) where
     -- a parent that gives a number passes the check
     gift_passed : spec.parent_check cl (some p) name ≡ none
     gift_passed = (gift_number (spec.parent_check cl (some p) name) (spec.given cl p name) gave h).0
@@ -172,9 +168,9 @@ module _ (cl : Clues) (p : Element) (name : ℕ) where
     pub gift_high : length p.label < max_depth
     gift_high = passed_high gift_passed
 
-module _ (cl : Clues) (ws : List ℕ) (count a : ℕ) (l : Label) (name p0 p1 : ℕ) {m : Gift} (gave : m ≡ gift_of cl (read_element (record_at a ws)) name) where
+module _ (cl : Clues) (ws : List ℕ) (count a : ℕ) (l : Label) (name p0 p1 : ℕ) {m : Result ℕ Shown} (gave : m ≡ gift_of cl (read_element (record_at a ws)) name) where
   -- where the parent refuses, the entry has that refusal
-  pub below_refused : {s : Shown} {e : Entry} → m ≡ gift.Refused s → e ≡ refused_entry (verdict.Refused s) count →
+  pub below_refused : {s : Shown} {e : Entry} → m ≡ Err s → e ≡ refused_entry (verdict.Refused s) count →
       entry_and_words e ws ≡ entered_below cl ws count a l name p0 p1
   unfolding entered_below
   below_refused h i =
@@ -182,7 +178,7 @@ module _ (cl : Clues) (ws : List ℕ) (count a : ℕ) (l : Label) (name p0 p1 : 
       ap (λ e. entry_and_words e ws) i ∙ gift_refused (spec.parent_check cl (some p) name) (spec.given cl p name) gave h ws count _
 
   -- where the parent gives a number, the child is added with it
-  pub below_added : {x : ℕ} {y : Entered} → m ≡ gift.Number x → y ≡ child_added ws count a l x name p0 p1 → y ≡ entered_below cl ws count a l name p0 p1
+  pub below_added : {x : ℕ} {y : Entered} → m ≡ Ok x → y ≡ child_added ws count a l x name p0 p1 → y ≡ entered_below cl ws count a l name p0 p1
   unfolding entered_below elim?
   below_added h i =
       let p : Element = read_element (record_at a ws) in

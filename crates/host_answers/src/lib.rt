@@ -2,7 +2,7 @@
 // small lent slices, as far as they have room, what else is answered.
 #![tactic(auto)]
 
-ghost use Rattle.std.specs.Prelude.{◌≡◌, [], ◌∷◌};
+ghost use Rattle.std.specs.Prelude.{◌≡◌, [], ◌∷◌, ◌++◌, length, take, drop};
 ghost use Rattle.host_answers.specs.Reports.{fitted, report, report_by};
 
 use refusals::Verdict;
@@ -35,30 +35,26 @@ pub fn tell(verdict: Verdict, value: usize, answer: &mut [usize]) -> u8
     refusal.number
 }
 
+// Puts items in a slice, as far as there is room.
+fn put_fitting<T: Copy>(items: &[T], out: &mut [T])
+    ensures { out.new ≡ take (length out.old) items.now ++ drop (length items.now) out.old }
+{
+    let room = items.len().min(out.len());
+    out[..room].copy_from_slice(&items[..room]);
+}
+
 // Puts names in a slice, as far as there is room.
+#[tactic(auto, unfolding(crate::specs::Reports::fitted))]
 pub fn tell_names(names: &[u8], out: &mut [u8])
     ensures { out.new ≡ fitted names.now out.old }
 {
-    let mut i: usize = 0;
-    while i < names.len() {
-        if out.len() <= i {
-            return;
-        }
-        out[i] = names[i];
-        i += 1;
-    }
+    put_fitting(names, out);
 }
 
 // Puts the words of a label in a slice, as far as there is room.
+#[tactic(auto, unfolding(crate::specs::Reports::fitted))]
 pub fn tell_label(words: &[u16], out: &mut [u16])
     ensures { out.new ≡ fitted words.now out.old }
 {
-    let mut i: usize = 0;
-    while i < words.len() {
-        if out.len() <= i {
-            return;
-        }
-        out[i] = words[i];
-        i += 1;
-    }
+    put_fitting(words, out);
 }

@@ -1,20 +1,17 @@
 -- What is told of kinship, of follows and of decoding.
 use Prim.Native.Nat.{ℕ}
-use mathlib.Core.Path.{◌≡◌, ap, ◌∙◌}
+use mathlib.Core.Path.{◌≡◌, sym, ap, ◌∙◌}
 use mathlib.Core.Bool.{Bool, cond}
 use mathlib.Core.List.{List}
-use native.Mathlib.Omega.{arith}
+use Rattle.std.specs.Prelude.{Result, Ok, Err}
 use Rattle.naming.specs.Names.{Table}
 use Rattle.basics.specs.Refusals as spec
 use Rattle.labelling.specs.Labels.{decode_call}
 use Rattle.refusals.specs.Answers.{refusal_of}
 use Rattle.refusals.specs.declared.Refusal.{Refusal}
 use Rattle.refusals.specs.declared.Verdict.TheVariants as verdict
-use Rattle.kinship.specs.Answers.{kinship_of, follows_of}
-use Rattle.kinship.specs.declared.KinshipAnswer.{KinshipAnswer}
-use Rattle.kinship.specs.declared.KinshipAnswer.TheVariants as kinship
-use Rattle.kinship.specs.declared.FollowsAnswer.{FollowsAnswer}
-use Rattle.kinship.specs.declared.FollowsAnswer.TheVariants as follows
+use Rattle.kinship.specs.Answers.{relation_number, kinship_reply, follows_of}
+use Rattle.kinship.specs.declared.Relation.{Relation}
 use Rattle.decoding.specs.Answers.{decoding_of}
 use Rattle.decoding.specs.declared.Decoding.{Decoding}
 use Rattle.table_bytes.specs.Rows.{table_in}
@@ -22,29 +19,28 @@ use Rattle.host_answers.specs.Reports.{fitted, Report, report_by, report_of}
 use Rattle.host_answers.proofs.Verdicts.{told_check}
 use Rattle.host_labels.specs.Calls.{kinship_report, follows_report}
 
--- where kinship answers a number, that number is told
-pub kinship_taken : (a : spec.Reply ℕ) (answer : List ℕ) {k : KinshipAnswer} {n : ℕ} {x : Report} →
-    k ≡ kinship_of a → k ≡ kinship.Is n → x ≡ report_by verdict.Passed n answer → x ≡ kinship_report a answer
-kinship_taken (spec.value m) answer {k} {n} is e told = let z : n ≡ m = cc in told ∙ ap (λ j. report_by verdict.Passed j answer) z
-kinship_taken (spec.refused r) answer is e told = absurd (let z : ◌≡◌ {A = ℕ} 0 1 = cc in omega arith)
+-- where kinship answers a relation, its number is told
+pub kinship_taken : (a : spec.Reply ℕ) (answer : List ℕ) {k : Result Relation Refusal} {relation : Relation} {n : ℕ} {x : Report} →
+    kinship_reply k ≡ a → k ≡ Ok relation → n ≡ relation_number relation → x ≡ report_by verdict.Passed n answer → x ≡ kinship_report a answer
+kinship_taken a answer is e f told =
+    told ∙ ap (λ j. report_by verdict.Passed j answer) f ∙ ap (λ a. kinship_report a answer) (ap kinship_reply (sym e) ∙ is)
 
 -- where kinship is refused, the refusal is told
-pub kinship_refused : (a : spec.Reply ℕ) (answer : List ℕ) {k : KinshipAnswer} {r : Refusal} {x : Report} →
-    k ≡ kinship_of a → k ≡ kinship.Refused r → x ≡ report_by (verdict.Refused r) 0 answer → x ≡ kinship_report a answer
-kinship_refused (spec.value m) answer is e told = absurd (let z : ◌≡◌ {A = ℕ} 0 1 = cc in omega arith)
-kinship_refused (spec.refused q) answer {k} {r} is e told = let z : r ≡ refusal_of q = cc in told ∙ ap (λ w. report_by (verdict.Refused w) 0 answer) z
+pub kinship_refused : (a : spec.Reply ℕ) (answer : List ℕ) {k : Result Relation Refusal} {r : Refusal} {x : Report} →
+    kinship_reply k ≡ a → k ≡ Err r → x ≡ report_by (verdict.Refused r) 0 answer → x ≡ kinship_report a answer
+kinship_refused a answer is e told = told ∙ ap (λ a. kinship_report a answer) (ap kinship_reply (sym e) ∙ is)
 
 -- where follows answers, 1 or 0 is told
-pub follows_taken : (a : spec.Reply Bool) (answer : List ℕ) {k : FollowsAnswer} {b : Bool} {n : ℕ} {x : Report} →
-    k ≡ follows_of a → k ≡ follows.Is b → n ≡ cond b 1 0 → x ≡ report_by verdict.Passed n answer → x ≡ follows_report a answer
+pub follows_taken : (a : spec.Reply Bool) (answer : List ℕ) {k : Result Bool Refusal} {b : Bool} {n : ℕ} {x : Report} →
+    k ≡ follows_of a → k ≡ Ok b → n ≡ cond b 1 0 → x ≡ report_by verdict.Passed n answer → x ≡ follows_report a answer
 follows_taken (spec.value c) answer {k} {b} is e f told =
     let z : b ≡ c = cc in told ∙ ap (λ j. report_by verdict.Passed j answer) (f ∙ ap (λ d. cond d 1 0) z)
-follows_taken (spec.refused r) answer is e f told = absurd (let z : ◌≡◌ {A = ℕ} 0 1 = cc in omega arith)
+follows_taken (spec.refused r) answer is e f told = cc
 
 -- where follows is refused, the refusal is told
-pub follows_refused : (a : spec.Reply Bool) (answer : List ℕ) {k : FollowsAnswer} {r : Refusal} {x : Report} →
-    k ≡ follows_of a → k ≡ follows.Refused r → x ≡ report_by (verdict.Refused r) 0 answer → x ≡ follows_report a answer
-follows_refused (spec.value c) answer is e told = absurd (let z : ◌≡◌ {A = ℕ} 0 1 = cc in omega arith)
+pub follows_refused : (a : spec.Reply Bool) (answer : List ℕ) {k : Result Bool Refusal} {r : Refusal} {x : Report} →
+    k ≡ follows_of a → k ≡ Err r → x ≡ report_by (verdict.Refused r) 0 answer → x ≡ follows_report a answer
+follows_refused (spec.value c) answer is e told = cc
 follows_refused (spec.refused q) answer {k} {r} is e told = let z : r ≡ refusal_of q = cc in told ∙ ap (λ w. report_by (verdict.Refused w) 0 answer) z
 
 module _ (bytes : List ℕ) (root : ℕ) (label : List ℕ) {t : Table} (read : t ≡ table_in bytes) {r : Decoding} (is : r ≡ decoding_of (decode_call t root label)) where

@@ -9,12 +9,12 @@ ghost use Rattle.host_answers.specs.Reports.{fitted, report, report_of};
 ghost use Rattle.host_labels.specs.Calls.{kinship_report, follows_report};
 
 use host_answers::{tell, tell_names};
-use kinship::{FollowsAnswer, KinshipAnswer};
 use refusals::Verdict;
 use table_bytes::table_in;
 
 // The names that a label decodes to, sixteen of them: 22, 21, 15, 16. A refusal gives zeros.
 #[unsafe(no_mangle)]
+#[tactic(auto, using(crate::proofs::Labels::decode_told, crate::proofs::Labels::decode_named))]
 pub extern "C" fn jiszteruk_decode(
     table: &[u8],
     root: u8,
@@ -34,31 +34,24 @@ pub extern "C" fn jiszteruk_decode(
 
 // Kinship of a first label to a second: 15. The value is 0 to 5, 0 in a refusal.
 #[unsafe(no_mangle)]
+#[tactic(auto, using(crate::proofs::Labels::kinship_taken, crate::proofs::Labels::kinship_refused))]
 pub extern "C" fn jiszteruk_kinship(first: &[u16], second: &[u16], answer: &mut [usize]) -> u8
     ensures { report result answer.new ≡ kinship_report (kinship_call first.now second.now) answer.old }
 {
-    let kin = kinship::kinship(first, second);
-    match kin {
-        KinshipAnswer::Is(k) => tell(Verdict::Passed, k as usize, answer),
-        KinshipAnswer::Refused(r) => tell(Verdict::Refused(r), 0, answer),
+    match kinship::kinship(first, second) {
+        Ok(relation) => tell(Verdict::Passed, usize::from(relation.number()), answer),
+        Err(refusal) => tell(Verdict::Refused(refusal), 0, answer),
     }
-}
-
-// The value of a yes or no: 1 for yes, 0 for no.
-fn number_of(yes: bool) -> usize
-    ensures { result ≡ cond yes 1 0 }
-{
-    if yes { 1 } else { 0 }
 }
 
 // Whether a first label follows a second: 15. The value is 1 for yes, 0 for no and in a refusal.
 #[unsafe(no_mangle)]
+#[tactic(auto, using(crate::proofs::Labels::follows_taken, crate::proofs::Labels::follows_refused))]
 pub extern "C" fn jiszteruk_follows(first: &[u16], second: &[u16], answer: &mut [usize]) -> u8
     ensures { report result answer.new ≡ follows_report (follows_call first.now second.now) answer.old }
 {
-    let after = kinship::follows(first, second);
-    match after {
-        FollowsAnswer::Is(yes) => tell(Verdict::Passed, number_of(yes), answer),
-        FollowsAnswer::Refused(r) => tell(Verdict::Refused(r), 0, answer),
+    match kinship::follows(first, second) {
+        Ok(yes) => tell(Verdict::Passed, usize::from(yes), answer),
+        Err(not_label) => tell(Verdict::Refused(not_label), 0, answer),
     }
 }

@@ -7,7 +7,8 @@ use mathlib.Core.Bool.{Bool, true, false, not, ◌&&◌}
 use lib.ListN.{length}
 use lib.Dec.{T}
 use borrow.Author.Tests.{eq-eqb, ne_eqb, not-true, not-false}
-use Rattle.basics.specs.Refusals.{not_label}
+use Rattle.std.specs.Prelude.{Ok, Err}
+use Rattle.basics.specs.Refusals.{not_label, value, refused}
 use Rattle.labelling.specs.Labels.{Label, before, shared, within, kinship, follows, label_of, is_label, kinship_call, follows_call}
 use Rattle.basics.proofs.Tests.{and_iff, is_true, test_equal}
 use Rattle.labelling.proofs.LabelOrder.{precedes_iff}
@@ -16,9 +17,8 @@ use Rattle.labelling.proofs.LabelCalls.{kinship_call_lem, kinship_refused, follo
 use Rattle.refusals.specs.Answers.{refusal_of}
 use Rattle.refusals.specs.declared.Refusal.{Refusal}
 use Rattle.labels.proofs.Steps.{passed}
-use Rattle.kinship.specs.Answers.{kinship_of, follows_of}
-use Rattle.kinship.specs.declared.KinshipAnswer.TheVariants as kin
-use Rattle.kinship.specs.declared.FollowsAnswer.TheVariants as follow
+use Rattle.kinship.specs.Answers.{relation_number, kinship_reply, follows_of}
+use Rattle.kinship.specs.declared.Relation.{Relation}
 
 -- kinship by the number s of shared components
 module _ (l m : Label) {s : ℕ} (e : s ≡ shared l m) where
@@ -93,12 +93,12 @@ module _ (a b : List ℕ) {x : Bool} (is : x ≡ (is_label a && is_label b)) whe
 
     module _ {l m : Label} (p : l ≡ label_of a) (q : m ≡ label_of b) where
       -- kinship is that of the components
-      pub kinship_answers : {k : ℕ} → k ≡ kinship l m → kin.Is k ≡ kinship_of (kinship_call a b)
-      kinship_answers f = rw (kinship_call_lem a b both.0 both.1, ← p, ← q) (ap kin.Is f)
+      pub kinship_answers : (k : Relation) → relation_number k ≡ kinship l m → kinship_reply (Ok k) ≡ kinship_call a b
+      kinship_answers k f = rw (kinship_call_lem a b both.0 both.1, ← p, ← q) (ap value f)
 
       -- the first follows where its components come after those of the second
-      pub follows_answers : {r : Bool} → r ≡ before m l → follow.Is r ≡ follows_of (follows_call a b)
-      follows_answers f = rw (follows_call_lem a b both.0 both.1, ← p, ← q) (ap follow.Is (f ∙ follows_is l m))
+      pub follows_answers : {r : Bool} → r ≡ before m l → Ok r ≡ follows_of (follows_call a b)
+      follows_answers f = rw (follows_call_lem a b both.0 both.1, ← p, ← q) (ap Ok (f ∙ follows_is l m))
 
 -- a refusal by 15 at place 0
 refusal_is : (r : Refusal) → r.number ≡ not_label → r.place ≡ 0 → r ≡ refusal_of (record { number = not_label; place = 0 })
@@ -112,9 +112,9 @@ module _ (a b : List ℕ) (n : (is_label a && is_label b) ≡ false) where
 
   module _ (r : Refusal) (e : r.number ≡ not_label) (d : r.place ≡ 0) where
     -- kinship of words that are not both labels is refused
-    pub kinship_refuses : kin.Refused r ≡ kinship_of (kinship_call a b)
-    kinship_refuses = rw (kinship_refused a b never_both) (ap kin.Refused (refusal_is r e d))
+    pub kinship_refuses : kinship_reply (Err r) ≡ kinship_call a b
+    kinship_refuses = rw (kinship_refused a b never_both) (ap₂ (λ (n p : ℕ). refused (record { number = n; place = p })) e d)
 
     -- whether words follow others is refused where not both are labels
-    pub follows_refuses : follow.Refused r ≡ follows_of (follows_call a b)
-    follows_refuses = rw (follows_refused a b never_both) (ap follow.Refused (refusal_is r e d))
+    pub follows_refuses : Err r ≡ follows_of (follows_call a b)
+    follows_refuses = rw (follows_refused a b never_both) (ap Err (refusal_is r e d))

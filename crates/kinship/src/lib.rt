@@ -3,66 +3,67 @@
 
 ghost use Rattle.std.specs.Prelude.{◌≡◌, ◌&&◌, ◌≤◌, length};
 ghost use Rattle.labelling.specs.Labels as spec;
-ghost use Rattle.kinship.specs.Answers.{kinship_of, follows_of};
+ghost use Rattle.kinship.specs.Answers.{relation_number, kinship_reply, follows_of};
 
 use label_order::{before, shared};
 use labels::{components, is_label};
 use refusals::Refusal;
 
-// The kinship of two equal labels.
-pub const SAME: u8 = 0;
-// The kinship of a first label that is the parent of the second.
-pub const PARENT: u8 = 1;
-// The kinship of a first label that is an ancestor of the second above its parent.
-pub const HIGHER_ANCESTOR: u8 = 2;
-// The kinship of a first label that is a child of the second.
-pub const CHILD: u8 = 3;
-// The kinship of a first label that is a descendant of the second below its children.
-pub const DEEPER_DESCENDANT: u8 = 4;
-// The kinship of two labels of which neither is an ancestor of the other.
-pub const UNRELATED: u8 = 5;
-
-// What kinship answers: one of the six numbers, or the refusal.
-#[derive(Drop)]
-pub enum KinshipAnswer {
-    Is(u8),
-    Refused(Refusal),
+// How a first label is kin to a second. A host program is told it by its number.
+#[derive(Clone, Copy, PartialEq, Eq, Debug)]
+pub enum Relation {
+    // The labels are equal.
+    Same = 0,
+    // The first is the parent of the second.
+    Parent = 1,
+    // The first is an ancestor of the second above its parent.
+    HigherAncestor = 2,
+    // The first is a child of the second.
+    Child = 3,
+    // The first is a descendant of the second below its children.
+    DeeperDescendant = 4,
+    // Neither is an ancestor of the other.
+    Unrelated = 5,
 }
 
-// What follows answers: whether the first label follows the second, or the refusal.
-#[derive(Drop)]
-pub enum FollowsAnswer {
-    Is(bool),
-    Refused(Refusal),
+impl Relation {
+    // The number by which a host program is told of a relation.
+    pub fn number(self) -> u8
+        ensures { result ≡ relation_number self }
+    {
+        self as u8
+    }
 }
 
 // Kinship of components to components, by the part that they share.
-fn kin(l: &[u16], m: &[u16]) -> u8
+#[tactic(auto, using(crate::proofs::Steps::kin_same, crate::proofs::Steps::kin_parent, crate::proofs::Steps::kin_above, crate::proofs::Steps::kin_child, crate::proofs::Steps::kin_below, crate::proofs::Steps::kin_none))]
+fn kin(l: &[u16], m: &[u16]) -> Relation
     requires { (length l.now ≤ 15) × (length m.now ≤ 15) }
-    ensures { result ≡ spec.kinship l.now m.now }
+    ensures { relation_number result ≡ spec.kinship l.now m.now }
 {
     let s = shared(l, m);
     let p = l.len();
     let q = m.len();
     if s == p {
         if s == q {
-            return SAME;
+            return Relation::Same;
         }
         if q == p + 1 {
-            return PARENT;
+            return Relation::Parent;
         }
-        return HIGHER_ANCESTOR;
+        return Relation::HigherAncestor;
     }
     if s == q {
         if p == q + 1 {
-            return CHILD;
+            return Relation::Child;
         }
-        return DEEPER_DESCENDANT;
+        return Relation::DeeperDescendant;
     }
-    UNRELATED
+    Relation::Unrelated
 }
 
 // Whether two lists of words are both labels.
+#[tactic(auto, using(crate::proofs::Steps::both_rest, crate::proofs::Steps::both_not))]
 fn both_labels(a: &[u16], b: &[u16]) -> bool
     ensures { result ≡ (spec.is_label a.now && spec.is_label b.now) }
 {
@@ -80,25 +81,27 @@ fn not_label() -> Refusal
 }
 
 // Kinship of a first label to a second.
-pub fn kinship(a: &[u16], b: &[u16]) -> KinshipAnswer
-    ensures { result ≡ kinship_of (spec.kinship_call a.now b.now) }
+#[tactic(auto, using(crate::proofs::Steps::first_label, crate::proofs::Steps::second_label, crate::proofs::Steps::kinship_answers))]
+pub fn kinship(a: &[u16], b: &[u16]) -> Result<Relation, Refusal>
+    ensures { kinship_reply result ≡ spec.kinship_call a.now b.now }
 {
     if !both_labels(a, b) {
-        return KinshipAnswer::Refused(not_label());
+        return Err(not_label());
     }
     let l = components(a);
     let m = components(b);
-    KinshipAnswer::Is(kin(l, m))
+    Ok(kin(l, m))
 }
 
 // Whether a first label follows a second.
-pub fn follows(a: &[u16], b: &[u16]) -> FollowsAnswer
+#[tactic(auto, using(crate::proofs::Steps::first_label, crate::proofs::Steps::second_label, crate::proofs::Steps::follows_answers))]
+pub fn follows(a: &[u16], b: &[u16]) -> Result<bool, Refusal>
     ensures { result ≡ follows_of (spec.follows_call a.now b.now) }
 {
     if !both_labels(a, b) {
-        return FollowsAnswer::Refused(not_label());
+        return Err(not_label());
     }
     let l = components(a);
     let m = components(b);
-    FollowsAnswer::Is(before(m, l))
+    Ok(before(m, l))
 }

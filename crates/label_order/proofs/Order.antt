@@ -1,17 +1,15 @@
 -- Label order by the part that two labels share.
 use Prim.Native.Nat.{ℕ, suc, ◌<◌, ◌≤◌}
 use mathlib.Core.Path.{◌≡◌, refl, sym, ap, subst, ◌∙◌}
-use mathlib.Core.Logic.{by_cases}
 use mathlib.Core.Bool.{Bool, true, false, cond}
 use mathlib.Core.List.{[], ◌∷◌}
-use native.Mathlib.Decide.{dec_lt}
 use native.Mathlib.Omega.{arith}
 use lib.ListN.{length, get_or, drop}
 use lib.Dec.{ltb, eqb}
-use borrow.Author.Tests.{eq-eqb, lt-ltb, le-ltb}
+use borrow.Author.Tests.{eq-eqb, le-ltb}
 use Rattle.labelling.specs.Labels.{Label, before, shared}
 use Rattle.basics.proofs.Tests.{Tells, passes, fails, eq?}
-use Rattle.label_order.proofs.Steps.{before_end, before_prefix, before_less, before_greater}
+use Rattle.label_order.proofs.Steps.{before_end, before_prefix, before_decided}
 
 -- what two labels share leaves their order to the rest
 shared_rest : (l m : Label) → before l m ≡ before (drop (shared l m) l) (drop (shared l m) m)
@@ -54,9 +52,7 @@ module _ (l m : Label) {s : ℕ} (is : s ≡ shared l m) where
 
     -- where neither label is shared whole, the components behind the shared part decide
     pub order_decided : s < length l → ltb (get_or l s 0) (get_or m s 0) ≡ before l m
-    order_decided k = by_cases (dec_lt (get_or l s 0) (get_or m s 0))
-        (λ e. lt-ltb _ _ e ∙ before_less l m s rest h k e)
-        (λ e. let d : get_or m s 0 ≤ get_or l s 0 = omega arith in le-ltb _ _ d ∙ before_greater l m s rest h k d part)
+    order_decided k = before_decided l m s rest h k part
       where
         part : get_or l s 0 ≡ get_or m s 0 → ⊥
         part = subst (λ s. s < length l → s < length m → get_or l s 0 ≡ get_or m s 0 → ⊥) (sym is) (shared_parts l m) k h

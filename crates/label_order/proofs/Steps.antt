@@ -2,10 +2,11 @@
 use Prim.Native.Nat.{ℕ, ◌+◌, ◌<◌, ◌≤◌}
 use mathlib.Core.Path.{◌≡◌, refl}
 use mathlib.Core.List.{[], ◌∷◌}
-use mathlib.Core.Bool.{true, false}
+use mathlib.Core.Bool.{true, false, or-false}
 use native.Mathlib.Omega.{arith}
+use lib.Dec.{ltb}
 use lib.ListN.{length, get_or, drop, drop_of_length-le}
-use borrow.Author.Tests.{eq-eqb, ne_eqb, le-ltb, lt-ltb}
+use borrow.Author.Tests.{eq-eqb, ne_eqb, le-ltb}
 use Rattle.labelling.specs.Labels.{Label, before, shared}
 use Rattle.basics.proofs.Scans.{from_cons}
 
@@ -57,18 +58,12 @@ module _ (a b : Label) (i : ℕ) (inv : before a b ≡ before (drop i a) (drop i
     before_prefix h = rw (inv, drop_of_length-le a h, from_cons b i 0 k)
 
     module _ (h : i < length a) where
-      -- where the first label has the lesser component i, it is before the second
-      pub before_less : get_or a i 0 < get_or b i 0 → true ≡ before a b
+      -- where the labels have different components i, these decide
+      pub before_decided : (get_or a i 0 ≡ get_or b i 0 → ⊥) → ltb (get_or a i 0) (get_or b i 0) ≡ before a b
       unfolding before
-      before_less e = rw (inv, from_cons a i 0 h, from_cons b i 0 k, lt-ltb _ _ e)
+      before_decided d = rw (inv, from_cons a i 0 h, from_cons b i 0 k, ne_eqb _ _ d, or-false)
 
-      module _ (e : get_or b i 0 ≤ get_or a i 0) where
-        -- where the first label has the greater component i, it is not before the second
-        pub before_greater : (get_or a i 0 ≡ get_or b i 0 → ⊥) → false ≡ before a b
-        unfolding before
-        before_greater d = rw (inv, from_cons a i 0 h, from_cons b i 0 k, le-ltb _ _ e, ne_eqb _ _ d)
-
-        -- where the labels have the same component i, the rest decides
-        pub before_on : get_or a i 0 ≡ get_or b i 0 → before a b ≡ before (drop (i + 1) a) (drop (i + 1) b)
-        unfolding before
-        before_on d = rw (inv, from_cons a i 0 h, from_cons b i 0 k, le-ltb _ _ e, eq-eqb _ _ d)
+      -- where the labels have the same component i, the rest decides
+      pub before_on : get_or a i 0 ≡ get_or b i 0 → before a b ≡ before (drop (i + 1) a) (drop (i + 1) b)
+      unfolding before
+      before_on e = rw (inv, from_cons a i 0 h, from_cons b i 0 k, e, le-ltb (get_or b i 0) (get_or b i 0) (omega arith), eq-eqb _ _ refl)

@@ -17,6 +17,7 @@ pub const UNUSED: [u16; 32] = [
 ];
 
 // The bits of word w of a label that must not be there: all of an unused component, none of a used one.
+#[tactic(auto, using(crate::proofs::Padding::rest_bits))]
 fn unused_bits(unused: &[u16; 32], depth: usize, w: usize, word: u16) -> u16
     requires { (unused.now ≡ unused_words) × (depth ≤ max_depth) × (w < label_size) }
     ensures { eqb result 0 ≡ rest_fits depth w word }
@@ -25,15 +26,14 @@ fn unused_bits(unused: &[u16; 32], depth: usize, w: usize, word: u16) -> u16
 }
 
 // The unused components of a label that stands at a place of a slice are 0.
+#[tactic(auto, using(label_words::proofs::Words::words_start, label_words::proofs::Words::words_on, label_words::proofs::Words::words_end))]
 pub fn rest_zero(unused: &[u16; 32], store: &[u16], at: usize, depth: usize) -> bool
     requires { (unused.now ≡ unused_words) × (at + label_size ≤ length store.now) × (depth ≤ max_depth) }
     ensures { result ≡ words_fit (rest_fits depth) store.now at label_size }
 {
     let mut any: u16 = 0;
-    let mut w: usize = 0;
-    while w < Label::WORDS {
+    for w in 0..Label::WORDS {
         any |= unused_bits(unused, depth, w, store[at + w]);
-        w += 1;
     }
     any == 0
 }

@@ -16,11 +16,7 @@ use Rattle.labelling.specs.Labels.{is_label}
 use Rattle.basics.proofs.Tests.{is_true, is_false}
 use Rattle.labelling.proofs.LabelWords.{IsLabel, is_label_iff}
 use Rattle.label_words.specs.Words.{word_fits, words_fit}
-use Rattle.label_words.proofs.Words.{word_used, word_unused, words_start, words_on, words_end, words_each, words_all}
-
--- a depth lessened to 15 is one that the table of largest words has
-pub depth_within : (d : ℕ) {depth : ℕ} → depth ≡ min d max_depth → depth ≤ max_depth
-depth_within d e = omega arith
+use Rattle.label_words.proofs.Words.{word_used, word_unused, words_on, words_end, words_each, words_all}
 
 module _ (l : List ℕ) where
   -- words that all fit are a label
@@ -45,10 +41,6 @@ module _ (l : List ℕ) where
   -- ---- all sixteen words in turn, by a depth that is lessened to 15
 
   module _ (depth : ℕ) where
-    -- before the first word every word read so far fits
-    pub all_start : true ≡ words_fit (word_fits depth) l 0 0
-    all_start = words_start (word_fits depth) l 0
-
     -- one more word is read
     pub all_on : (any n : ℕ) → eqb any 0 ≡ words_fit (word_fits depth) l 0 n → (m : ℕ) → eqb m 0 ≡ word_fits depth n (get_or l n 0) → eqb (bit_or any m) 0 ≡ words_fit (word_fits depth) l 0 (n + 1)
     all_on any n inv m is = words_on (word_fits depth) l 0 any n inv m (rw zero-add is)

@@ -1,5 +1,5 @@
 -- What two labels share, four components at a time: as numbers they part at the first bit in which they differ.
-use Prim.Native.Nat.{ℕ, zero, suc, ◌+◌, ◌-◌, ◌*◌, ◌/◌, ◌^◌, ◌<◌, ◌≤◌, min}
+use Prim.Native.Nat.{ℕ, zero, suc, ◌+◌, ◌*◌, ◌/◌, ◌^◌, ◌<◌, ◌≤◌}
 use mathlib.Core.Path.{◌≡◌, refl, sym, ap, ap₂, subst, ◌∙◌}
 use mathlib.Core.Bool.{Bool, true, false, cond}
 use mathlib.Core.List.{List, [], ◌∷◌}
@@ -77,7 +77,7 @@ front_shared (suc n) (x ∷ l) (y ∷ m) h k e = go (eqb x y) e (front_shared n 
     go false e below = absurd (omega arith)
 
 -- four components from i on, where all components before i are shared
-module _ (a b : Label) (i : ℕ) (inv : shared a b ≡ i + shared (drop i a) (drop i b)) {n : ℕ} (both : n ≡ min (length a) (length b)) (low : i ≤ n) (room : 4 ≤ n - i)
+module _ (a b : Label) (i : ℕ) (inv : shared a b ≡ i + shared (drop i a) (drop i b)) (room_a : i + 4 ≤ length a) (room_b : i + 4 ≤ length b)
     {s : ℕ} (is : s ≡ shared (take 4 (drop i a)) (take 4 (drop i b))) where
   -- where fewer than four of the four are shared, the labels part there
   pub four_parts : s < 4 → i + s ≡ shared a b

@@ -2,7 +2,7 @@
 // out between the words, so that the compiler takes several at once.
 #![tactic(auto)]
 
-ghost use Rattle.std.specs.Prelude.{◌≡◌, ◌+◌, ◌<◌, ◌≤◌, min, length, get_or, take, drop, T, eqb};
+ghost use Rattle.std.specs.Prelude.{◌≡◌, ◌+◌, ◌<◌, ◌≤◌, length, take, drop, T, eqb};
 ghost use Rattle.basics.specs.Basics.{all};
 ghost use Rattle.basics.specs.Limits.{max_depth, label_size};
 ghost use Rattle.labelling.specs.Labels as spec;
@@ -50,6 +50,7 @@ pub const LARGEST: [u16; 32] = [
 ];
 
 // 0 where word w of a label fits its depth, 1 where it is too large.
+#[tactic(auto, using(crate::proofs::Words::word_over, crate::proofs::Words::word_within))]
 fn misfit(largest: &[u16; 32], depth: usize, w: usize, word: u16) -> u16
     requires { (largest.now ≡ layout.largest_words) × (depth ≤ max_depth) × (w < label_size) }
     ensures { eqb result 0 ≡ layout.word_fits depth w word }
@@ -61,25 +62,17 @@ fn misfit(largest: &[u16; 32], depth: usize, w: usize, word: u16) -> u16
     }
 }
 
-// The lesser of two numbers.
-fn lesser(x: usize, y: usize) -> usize
-    ensures { result ≡ min x y }
-{
-    if x < y { x } else { y }
-}
-
 // Sixteen words are a label. The depth is lessened to 15 first, so that nothing is decided before all words are read.
+#[tactic(auto, using(crate::proofs::Words::words_start, crate::proofs::Fits::all_on, crate::proofs::Fits::all_deep, crate::proofs::Fits::all_misfit))]
 pub fn laid_out(largest: &[u16; 32], words: &[u16]) -> bool
     requires { (largest.now ≡ layout.largest_words) × (length words.now ≡ label_size) }
     ensures { result ≡ spec.is_label words.now }
 {
     let depth = words[0] as usize;
-    let bounded = lesser(depth, Label::MAX_DEPTH);
+    let bounded = depth.min(Label::MAX_DEPTH);
     let mut any: u16 = 0;
-    let mut w: usize = 0;
-    while w < Label::WORDS {
+    for w in 0..Label::WORDS {
         any |= misfit(largest, bounded, w, words[w]);
-        w += 1;
     }
     any == 0 && depth == bounded
 }
@@ -91,41 +84,37 @@ const WORD_BITS: u32 = 16;
 // How many numbers fit a word.
 const WORD: u64 = 65536;
 
-// Word i as a number of sixty-four bits.
-fn wide(s: &[u16], i: usize) -> u64
-    requires { i < length s.now }
-    ensures { (result ≡ get_or s.now i 0) × (result < 65536) }
-{
-    s[i] as u64
-}
-
 // Four words from place i on as one number, the first of them lowest.
+#[tactic(auto, using(crate::proofs::Fours::four_joined, crate::proofs::Fours::four_small))]
 fn four(s: &[u16], i: usize) -> u64
     requires { i + 4 ≤ length s.now }
     ensures { (result ≡ joined_words (take 4 (drop i s.now))) × T (all is_word (take 4 (drop i s.now))) }
 {
-    let high = wide(s, i + 3) * WORD + wide(s, i + 2);
-    let low = wide(s, i + 1) * WORD + wide(s, i);
+    let high = u64::from(s[i + 3]) * WORD + u64::from(s[i + 2]);
+    let low = u64::from(s[i + 1]) * WORD + u64::from(s[i]);
     high * WORD * WORD + low
 }
 
 // How many leading components two labels share of the four from place i on:
 // as many as whole words stand below the first bit that differs.
+#[tactic(auto, using(crate::proofs::Fours::change_small, crate::proofs::Fours::four_change))]
 fn four_shared(a: &[u16], b: &[u16], i: usize) -> usize
     requires { (i + 4 ≤ length a.now) × (i + 4 ≤ length b.now) }
     ensures { result ≡ spec.shared (take 4 (drop i a.now)) (take 4 (drop i b.now)) }
 {
-    let same = u64::trailing_zeros(four(a, i) ^ four(b, i));
+    let same = (four(a, i) ^ four(b, i)).trailing_zeros();
     (same / WORD_BITS) as usize
 }
 
 // How many leading components two labels share: four at a time, then the rest.
 // Of short parts `label_order::shared` tells it sooner.
+#[tactic(auto, using(crate::proofs::Fours::four_parts, crate::proofs::Fours::four_on), unfolding(labelling::specs::Labels::shared))]
 pub fn shared_part(a: &[u16], b: &[u16]) -> usize
     ensures { result ≡ spec.shared a.now b.now }
 {
-    let n = lesser(a.len(), b.len());
+    let n = a.len().min(b.len());
     let mut i: usize = 0;
+    // A walk by fours, which goes on while both labels have four more.
     while FOUR <= n - i {
         let s = four_shared(a, b, i);
         if s < FOUR {

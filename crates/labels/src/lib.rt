@@ -22,6 +22,7 @@ impl Label {
     pub const MAX_COMPONENT: u16 = 65534;
 
     // The root's label.
+    #[tactic(auto, unfolding(labelling::specs::Labels::label_words))]
     pub fn empty() -> Label
         ensures { result.words ≡ spec.label_words [] }
     {
@@ -33,14 +34,7 @@ impl Label {
 fn all_components(s: &[u16]) -> bool
     ensures { result ≡ all spec.is_component s.now }
 {
-    let mut i: usize = 0;
-    while i < s.len() {
-        if Label::MAX_COMPONENT < s[i] {
-            return false;
-        }
-        i += 1;
-    }
-    true
+    s.iter().all(|word| *word <= Label::MAX_COMPONENT)
 }
 
 // The d words after the first.
@@ -52,6 +46,7 @@ fn after_first(words: &[u16], d: usize) -> &[u16]
 }
 
 // Whether words are a label.
+#[tactic(auto, unfolding(labelling::specs::Labels::is_label, labelling::specs::Labels::label_of))]
 pub fn is_label(words: &[u16]) -> bool
     ensures { result ≡ spec.is_label words.now }
 {
@@ -69,6 +64,7 @@ pub fn is_label(words: &[u16]) -> bool
 }
 
 // The components of a label.
+#[tactic(auto, using(crate::proofs::Steps::label_first, crate::proofs::Steps::label_within, crate::proofs::Steps::label_short), unfolding(labelling::specs::Labels::label_of))]
 pub fn components(words: &[u16]) -> &[u16]
     requires { spec.is_label words.now ≡ true }
     ensures { (result.now ≡ spec.label_of words.now) × (length result.now ≤ 15) }

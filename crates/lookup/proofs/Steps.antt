@@ -1,26 +1,25 @@
 -- What each way out of the search tells of the definitions.
 use Prim.Native.Nat.{ℕ, ◌+◌, ◌*◌, ◌<◌, ◌≤◌}
 use mathlib.Core.Path.{◌≡◌, sym, ap, subst, ◌∙◌}
-use mathlib.Core.Bool.{Bool, true, false, not}
+use mathlib.Core.Bool.{Bool, true, false, not, true≢false}
 use mathlib.Core.List.{List}
 use mathlib.Core.Option.{some}
 use native.Mathlib.Omega.{arith}
 use lib.ListN.{length, get_or}
 use lib.Dec.{T, eqb}
+use lib.Pointwise.{pointwise, bytes_decides}
 use borrow.Author.Tests.{not-true, not-false}
 use Rattle.basics.proofs.Leading.{leading_most, leading_under}
 use Rattle.basics.specs.Basics.{leading}
 use Rattle.basics.specs.Limits.{max_depth, record_size}
-use Rattle.labelling.specs.Labels.{Label, before, shared, within, same, label_of}
+use Rattle.labelling.specs.Labels.{Label, before, shared, within, label_of}
 use Rattle.storage.specs.Store.{Element, read_element, elements}
-use Rattle.basics.proofs.Tests.{and_iff, eqb_alike}
-use Rattle.labelling.proofs.LabelOrder.{same_alike}
-use Rattle.labelling.proofs.Kinship.{shared_self, shared_comm}
 use Rattle.storage.proofs.Sizes.{length_elements_read}
 use Rattle.records.specs.Records.{record_at}
 use Rattle.records.proofs.Elements.{element_at_lem}
-use Rattle.lookup.specs.Places.{place_at, found_of, passes, InLabelOrder}
-use Rattle.lookup.specs.declared.Found.TheVariants as found
+use Rattle.std.specs.Prelude.{Some, None}
+use Rattle.bridges.specs.Options.{optional}
+use Rattle.lookup.specs.Places.{place_at, passes, InLabelOrder}
 use Rattle.lookup.proofs.Places.{empty, leading_over, place_leading, place_inside, place_none, place_found}
 
 -- record r has the label m, and b tells whether m comes before a label
@@ -69,19 +68,18 @@ module _ (count : ℕ) (ws : List ℕ) (s : InLabelOrder count ws) {r : ℕ} (h 
     pub rank_under : p ≡ false → leading (passes subtree l) (elements count ws) ≤ r
     rank_under e = leading_under (passes subtree l) empty (elements count ws) r (λ t. subst T (sym passes_at ∙ e) t)
 
--- labels that share all of both are the same
-shared_all : (m l : Label) → shared m l ≡ length m → shared m l ≡ length l → m ≡ l
-unfolding same within
-shared_all m l h k = (same_alike m l).0 ((and_iff (within m l) (within l m)).1 ((eqb_alike _ _).1 h, (eqb_alike _ _).1 (shared_comm l m ∙ k)))
+-- labels that a comparison tells apart are not the same
+told_apart : {m l : Label} → false ≡ pointwise eqb m l → m ≡ l → ⊥
+told_apart {m} {l} n e = true≢false (sym ((bytes_decides m l).1 e) ∙ sym n)
 
 -- record r is the first that does not come before a label
 module _ (count : ℕ) (ws : List ℕ) (s : InLabelOrder count ws) (l : Label) {r : ℕ} (is : r ≡ leading (passes false l) (elements count ws)) where
   -- the label stands there or nowhere
-  absent : ((a : ℕ) → r ≡ a → place_at l (elements count ws) ≡ some a → ⊥) → found.Absent ≡ found_of (place_at l (elements count ws))
+  absent : ((a : ℕ) → r ≡ a → place_at l (elements count ws) ≡ some a → ⊥) → None ≡ optional (place_at l (elements count ws))
   absent n = rw (place_none l (elements count ws) (λ a q. n a (is ∙ sym (place_leading l (elements count ws) a s.ordered q)) q))
 
   -- all come before it
-  pub lookup_past : count ≤ r → found.Absent ≡ found_of (place_at l (elements count ws))
+  pub lookup_past : count ≤ r → None ≡ optional (place_at l (elements count ws))
   lookup_past h = absent (λ a e q. omega (arith, (place_inside l (elements count ws) a empty q).0, length_elements_read count ws))
 
   module _ (h : r < count) {m : Label} (e : m ≡ label_of (record_at r ws)) where
@@ -90,23 +88,13 @@ module _ (count : ℕ) (ws : List ℕ) (s : InLabelOrder count ws) (l : Label) {
     unfolding read_element
     label_is = ap (λ (x : Element). x.label) (element_at_lem count ws r empty h) ∙ sym e
 
-    -- the record has another label
-    absent_other : (m ≡ l → ⊥) → found.Absent ≡ found_of (place_at l (elements count ws))
-    absent_other n = absent (λ a d q.
-        n (sym label_is ∙ ap (λ (i : ℕ). (get_or (elements count ws) i empty).label) d ∙ (place_inside l (elements count ws) a empty q).1))
+    -- where the record has another label, the label stands nowhere
+    pub lookup_other : false ≡ pointwise eqb m l → None ≡ optional (place_at l (elements count ws))
+    lookup_other n = absent (λ a d q. told_apart n (sym label_is ∙ ap (λ (i : ℕ). (get_or (elements count ws) i empty).label) d ∙ (place_inside l (elements count ws) a empty q).1))
 
-    module _ {k : ℕ} (f : k ≡ shared m l) where
-      -- one that the label does not go on from
-      pub lookup_off : (k ≡ length m → ⊥) → found.Absent ≡ found_of (place_at l (elements count ws))
-      lookup_off n = absent_other (λ d. n (f ∙ rw d (shared_self l)))
-
-      -- one that does not go on from the label
-      pub lookup_short : (k ≡ length l → ⊥) → found.Absent ≡ found_of (place_at l (elements count ws))
-      lookup_short n = absent_other (λ d. n (f ∙ rw d (shared_self l)))
-
-      -- the record has the label
-      pub lookup_here : k ≡ length m → k ≡ length l → found.At r ≡ found_of (place_at l (elements count ws))
-      lookup_here g q =
-          let (a, p) = place_found l (elements count ws) r empty (omega (arith, length_elements_read count ws))
-          (label_is ∙ shared_all m l (sym f ∙ g) (sym f ∙ q)) in
-          rw p (ap found.At (is ∙ sym (place_leading l (elements count ws) a s.ordered p)))
+    -- where the record has the label, it is found there
+    pub lookup_here : true ≡ pointwise eqb m l → Some r ≡ optional (place_at l (elements count ws))
+    lookup_here d =
+        let same : m ≡ l = (bytes_decides m l).0 (sym d) in
+        let (a, p) = place_found l (elements count ws) r empty (omega (arith, length_elements_read count ws)) (label_is ∙ same) in
+        rw p (ap Some (is ∙ sym (place_leading l (elements count ws) a s.ordered p)))

@@ -5,18 +5,11 @@ use Rattle.basics.specs.Basics.{Ascending}
 use Rattle.basics.specs.Limits.{max_depth, record_size}
 use Rattle.labelling.specs.Labels.{Label, before, within, same}
 use Rattle.storage.specs.Store.{Element, ahead, elements}
-use Rattle.lookup.specs.declared.Found.{Found}
-use Rattle.lookup.specs.declared.Found.TheVariants as found
 
 -- the number of the element with a label
 unfoldable pub place_at : Label → List Element → Option ℕ
 place_at l [] = none
 place_at l (e ∷ es) = cond (same e.label l) (some 0) (map suc (place_at l es))
-
--- found at a record, or absent
-abbrev pub found_of : Option ℕ → Found
-found_of none = found.Absent
-found_of (some r) = found.At r
 
 -- an element comes before a label or, where its subtree is to be passed as well, is in that
 unfoldable pub passes : Bool → Label → Element → Bool

@@ -5,19 +5,14 @@ ghost use Rattle.std.specs.Prelude.{◌≡◌, true, ◌+◌, ◌*◌, ◌≤◌
 ghost use Rattle.basics.specs.Basics.{leading};
 ghost use Rattle.storage.specs.Store.{read_element, elements};
 ghost use Rattle.records.specs.Records.{record_at};
-ghost use Rattle.lookup.specs.Places.{place_at, found_of, passes, InLabelOrder};
+ghost use Rattle.bridges.specs.Options.{optional};
+ghost use Rattle.lookup.specs.Places.{place_at, passes, InLabelOrder};
 
 use label_order::{before, shared};
 use records::label_at;
 
-// Where a label stands: at a record, or nowhere.
-#[derive(Drop)]
-pub enum Found {
-    At(usize),
-    Absent,
-}
-
 // A record comes before a label or, with the subtree, is in it.
+#[tactic(auto, using(crate::proofs::Steps::passes_before, crate::proofs::Steps::passes_not, crate::proofs::Steps::passes_inside))]
 fn record_passes(store: &[u16], r: usize, label: &[u16], subtree: bool) -> bool
     requires { (r * 20 + 20 ≤ length store.now) × (get_or store.now (r * 20) 0 ≤ 15) }
     ensures { result ≡ passes subtree label.now (read_element (record_at r store.now)) }
@@ -33,6 +28,7 @@ fn record_passes(store: &[u16], r: usize, label: &[u16], subtree: bool) -> bool
 }
 
 // How many records pass: a binary search.
+#[tactic(auto, using(crate::proofs::Steps::rank_most, crate::proofs::Steps::in_room, crate::proofs::Steps::in_shallow, basics::proofs::Leading::middle_in, crate::proofs::Steps::rank_over, crate::proofs::Steps::rank_under))]
 fn rank(store: &[u16], count: usize, label: &[u16], subtree: bool) -> usize
     requires { InLabelOrder count store.now }
     ensures { result ≡ leading (passes subtree label.now) (elements count store.now) }
@@ -51,23 +47,20 @@ fn rank(store: &[u16], count: usize, label: &[u16], subtree: bool) -> usize
 }
 
 // The record with a label.
-pub fn lookup(store: &[u16], count: usize, label: &[u16]) -> Found
+#[tactic(auto, using(crate::proofs::Steps::lookup_past, crate::proofs::Steps::in_room, crate::proofs::Steps::in_shallow, crate::proofs::Steps::lookup_other, crate::proofs::Steps::lookup_here))]
+pub fn lookup(store: &[u16], count: usize, label: &[u16]) -> Option<usize>
     requires { InLabelOrder count store.now }
-    ensures { result ≡ found_of (place_at label.now (elements count store.now)) }
+    ensures { result ≡ optional (place_at label.now (elements count store.now)) }
 {
     let r = rank(store, count, label, false);
     if count <= r {
-        return Found::Absent;
+        return None;
     }
-    let l = label_at(store, r);
-    let s = shared(l, label);
-    if s != l.len() {
-        return Found::Absent;
+    if label_at(store, r) == label {
+        Some(r)
+    } else {
+        None
     }
-    if s != label.len() {
-        return Found::Absent;
-    }
-    Found::At(r)
 }
 
 // The record behind the last one of a label's subtree.

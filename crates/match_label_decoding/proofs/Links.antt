@@ -1,14 +1,15 @@
 -- One label of a stream: what each way out of `read_label` tells of whether the label may stand there.
 use Prim.Native.Nat.{ℕ, zero, suc, ◌≤◌}
 use mathlib.Core.Path.{◌≡◌, refl, sym, ap, subst, ◌∙◌}
-use mathlib.Core.Bool.{Bool, true, false, not, ◌&&◌, ◌||◌, and-false}
+use mathlib.Core.Bool.{Bool, true, false, not, ◌&&◌, ◌||◌, and-true, and-false}
 use mathlib.Core.List.{List}
 use native.Mathlib.Omega.{arith}
 use lib.ListN.{length, get_or, take}
-use lib.Dec.{T, eqb, eqb-suc-zero}
+use lib.Dec.{eqb, eqb-suc-zero}
 use borrow.Author.Tests.{not-true, not-false}
+use Rattle.std.specs.Bool.{then_some}
+use Rattle.std.specs.Prelude.{Option}
 use Rattle.basics.specs.Basics.{elim?}
-use Rattle.basics.specs.Limits.{label_size}
 use Rattle.naming.specs.Names.{Clues}
 use Rattle.labelling.specs.Labels.{Label, before, shared, Decoded, path, stuck, decode, end_of, name_at, label_of, is_label}
 use Rattle.embeddings.specs.Matches.{asks, fits}
@@ -16,7 +17,6 @@ use Rattle.match_calls.specs.Matching.{in_stream}
 use Rattle.labelling.proofs.Kinship.{shared_alike, shared_low, shared_comm}
 use Rattle.match_label_decoding.specs.Streams.{Along, leads_on, words_at, label_at, previous_at, label_before, label_stands}
 use Rattle.match_label_decoding.specs.Answers.{link_of}
-use Rattle.match_label_decoding.specs.declared.Link.TheVariants as link
 use Rattle.match_label_decoding.proofs.Along.{along_front, along_fits}
 
 -- two labels share no more components than the second has
@@ -47,12 +47,6 @@ later_is zero ws l = refl
 later_is (suc i) ws l = rw (eqb-suc-zero)
 
 module _ (cl : Clues) (root want i : ℕ) (ws : List ℕ) where
-  -- a label that may not stand at its place is ruled out, and nothing is told of the names
-  pub link_out : (s : ℕ) (ns : List ℕ) → label_stands cl root want i ws ≡ false → length ns ≡ label_size →
-      (link.RuledOut ≡ link_of (label_stands cl root want i ws) s)
-      × ((length ns ≡ label_size) × (label_stands cl root want i ws ≡ true → Along cl root (label_at i ws) ns))
-  link_out s ns e size = (rw e, (size, λ f. absurd (subst T (sym f ∙ e) tt)))
-
   module _ {words : List ℕ} (at : words ≡ words_at i ws) {x : Bool} (is : x ≡ is_label words) where
     -- words that are no label
     pub link_label : not x ≡ true → label_stands cl root want i ws ≡ false
@@ -83,19 +77,23 @@ module _ (cl : Clues) (root want i : ℕ) (ws : List ℕ) where
         fit : fits cl root want l ≡ a
         fit = along_fits cl root l ns along want ∙ sym asked
 
-        -- a label of another name
-        pub link_name : not a ≡ true → label_stands cl root want i ws ≡ false
-        link_name e = tests ∙ rw (fit, not-true a e) (ap (λ y. y && b) (and-false x))
+        -- a label that is one, in order, stands if its name is asked for
+        link_asked : not x ≡ false → not b ≡ false → label_stands cl root want i ws ≡ a
+        link_asked e f = tests ∙ rw (fit, not-false x e, not-false b f) (and-true a)
 
-        -- a label that passes every test
+        -- a label that passes every test stands
         pub link_stands : not x ≡ false → not b ≡ false → not a ≡ false → label_stands cl root want i ws ≡ true
-        link_stands e f g = tests ∙ rw (fit, not-false x e, not-false b f, not-false a g)
+        link_stands e f g = link_asked e f ∙ not-false a g
+
+        -- a label that is one, in order, tells what it shares if its name is asked for
+        pub link_read : not x ≡ false → not b ≡ false → {s : ℕ} {r : Option ℕ} → s ≡ shared p l → r ≡ then_some a s →
+            r ≡ link_of (label_stands cl root want i ws) (shared (label_before i ws) (label_at i ws))
+        link_read e f {s} share is = is ∙ rw (link_asked e f, ← at, ← of, ← previous, ← share) (told a)
+          where
+            told : (c : Bool) → then_some c s ≡ link_of c s
+            told true = refl
+            told false = refl
 
         -- the names found are those along label i
         pub link_along : Along cl root (label_at i ws) ns
         link_along = subst (λ m. Along cl root m ns) (of ∙ ap label_of at) along
-
-  -- a label that may stand at its place shares with the one before it what was counted
-  pub link_shares : label_stands cl root want i ws ≡ true → {words : List ℕ} → words ≡ words_at i ws → {l p : Label} → l ≡ label_of words → p ≡ label_before i ws →
-      {s : ℕ} → s ≡ shared p l → link.Shares s ≡ link_of (label_stands cl root want i ws) (shared (label_before i ws) (label_at i ws))
-  link_shares e at of previous share = rw (e, ← at, ← of, ← previous) (ap link.Shares share)

@@ -11,22 +11,15 @@ ghost use Rattle.match_label_decoding.specs.Streams.{Along, leads_on, words_at, 
 ghost use Rattle.match_label_decoding.specs.Answers.{link_of};
 
 use clue_lengths::length_of;
-use clues::{Child, child_among};
+use clues::child_among;
 use label_order::ordered;
 use label_words::{laid_out, shared_part};
 use labels::{Label, components};
 use names::Table;
 use twigs::asks;
 
-// What reading a label of a stream tells: how many components the label shares with the one before it, or that it
-// may not stand there.
-#[derive(Drop)]
-pub enum Link {
-    Shares(usize),
-    RuledOut,
-}
-
 // The words of label i of a stream.
+#[tactic(auto, using(crate::proofs::Words::words_are, crate::proofs::Words::words_sixteen))]
 fn words_at(stream: &[u16], i: usize) -> &[u16]
     requires { i * label_size + label_size ≤ length stream.now }
     ensures { (result.now ≡ words_at i stream.now) × (length result.now ≡ label_size) }
@@ -36,6 +29,7 @@ fn words_at(stream: &[u16], i: usize) -> &[u16]
 }
 
 // The label before label i of a stream, the root's for the first.
+#[tactic(auto, using(crate::proofs::Words::before_first, crate::proofs::Words::before_label, crate::proofs::Words::before_other))]
 fn label_before(stream: &[u16], i: usize) -> &[u16]
     requires { (i * label_size + label_size ≤ length stream.now) × Stood i stream.now }
     ensures { result.now ≡ label_before i stream.now }
@@ -47,25 +41,25 @@ fn label_before(stream: &[u16], i: usize) -> &[u16]
 }
 
 // Names along the first s components of a label are led on along the others; false where a clue is empty.
+#[tactic(auto, using(crate::proofs::Leading::lead_stuck, crate::proofs::Leading::lead_end, crate::proofs::Leading::lead_along, clue_lengths::proofs::Lengths::length_is, crate::proofs::Leading::lead_next))]
 fn lead_on(table: &Table, lengths: &[usize], label: &[u16], s: usize, names: &mut [u8]) -> bool
     requires { (lengths.now ≡ lengths_of table.now) × (s ≤ length label.now) × (length label.now ≤ max_depth) × (length names.old ≡ label_size) × Along (clues_of table.now) (get_or names.old 0 0) (take s label.now) names.old }
     ensures value { result ≡ leads_on (spec.decode (clues_of table.now) (get_or names.old 0 0) label.now) }
     ensures names_len { length names.new ≡ label_size }
     ensures along { result ≡ true → Along (clues_of table.now) (get_or names.old 0 0) label.now names.new }
 {
-    let mut j = s;
-    while j < label.len() {
+    for j in s..label.len() {
         let parent = names[j] as usize;
-        let Child::Name(c) = child_among(table, parent, length_of(lengths, parent), label[j]) else {
+        let Some(child) = child_among(table, parent, length_of(lengths, parent), label[j]) else {
             return false;
         };
-        j += 1;
-        names[j] = c;
+        names[j + 1] = child;
     }
     true
 }
 
 // Label i may stand behind the one before it, with which it shares s components.
+#[tactic(auto, using(crate::proofs::Words::later_first, crate::proofs::Words::later_other))]
 fn is_later(i: usize, previous: &[u16], label: &[u16], s: usize) -> bool
     requires { s ≡ spec.shared previous.now label.now }
     ensures { result ≡ (eqb i 0 || spec.before previous.now label.now) }
@@ -73,8 +67,9 @@ fn is_later(i: usize, previous: &[u16], label: &[u16], s: usize) -> bool
     i == 0 || ordered(previous, label, s)
 }
 
-// Label i of a stream, read behind the label before it. `names` holds the names along the label before, and then those
-// along label i.
+// Label i of a stream, read behind the label before it: how many components the two share, none where it may not stand
+// there. `names` holds the names along the label before, and then those along label i.
+#[tactic(auto, using(crate::proofs::Links::link_label, crate::proofs::Links::link_later, crate::proofs::Links::share_in, crate::proofs::Links::share_along, crate::proofs::Links::link_stuck, crate::proofs::Links::link_read, crate::proofs::Links::link_along, labels::proofs::Steps::known_label))]
 pub fn read_label(
     table: &Table,
     lengths: &[usize],
@@ -83,7 +78,7 @@ pub fn read_label(
     stream: &[u16],
     i: usize,
     names: &mut [u8],
-) -> Link
+) -> Option<usize>
     requires { (largest.now ≡ layout.largest_words) × (lengths.now ≡ lengths_of table.now) × (i * label_size + label_size ≤ length stream.now) × (length names.old ≡ label_size) × Stood i stream.now × Along (clues_of table.now) (get_or names.old 0 0) (label_before i stream.now) names.old }
     ensures value { result ≡ link_of (label_stands (clues_of table.now) (get_or names.old 0 0) want i stream.now) (spec.shared (label_before i stream.now) (label_at i stream.now)) }
     ensures names_len { length names.new ≡ label_size }
@@ -91,19 +86,16 @@ pub fn read_label(
 {
     let words = words_at(stream, i);
     if !laid_out(largest, words) {
-        return Link::RuledOut;
+        return None;
     }
     let label = components(words);
     let previous = label_before(stream, i);
     let s = shared_part(previous, label);
     if !is_later(i, previous, label, s) {
-        return Link::RuledOut;
+        return None;
     }
     if !lead_on(table, lengths, label, s, names) {
-        return Link::RuledOut;
+        return None;
     }
-    if !asks(want, names[label.len()] as u16) {
-        return Link::RuledOut;
-    }
-    Link::Shares(s)
+    asks(want, names[label.len()] as u16).then_some(s)
 }

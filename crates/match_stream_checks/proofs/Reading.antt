@@ -4,7 +4,7 @@ use mathlib.Core.Path.{◌≡◌, refl, sym, ap, ap₂, subst, ◌∙◌}
 use mathlib.Core.Logic.{by_cases}
 use mathlib.Core.Bool.{Bool, true, false}
 use mathlib.Core.List.{List, [], ◌∷◌, ◌++◌}
-use mathlib.Core.Option.{none, some, none-ne-some}
+use mathlib.Core.Option.{none, some}
 use native.Mathlib.Decide.{dec_lt}
 use native.Mathlib.Nat.{add-zero, sub-zero}
 use native.Mathlib.Omega.{arith}
@@ -12,6 +12,8 @@ use native.Mathlib.Numerals.{add-one}
 use lib.ListN.{length, get_or, take, drop, set, replicate}
 use lib.Seq.{paste, take_all, take-suc, take-suc-set, drop-drop}
 use lib.Dec.{T}
+use Rattle.std.specs.Prelude.{Some, None}
+use Rattle.std.specs.Prelude as std
 use Rattle.basics.specs.Basics.{elim?}
 use Rattle.basics.specs.Limits.{label_size, max_depth}
 use Rattle.basics.specs.Refusals.{refuse, bad_stream}
@@ -24,11 +26,8 @@ use Rattle.match_calls.proofs.StreamChecks.{in_stream_iff, stream_check_next, st
 use Rattle.refusals.specs.Answers.{verdict_of}
 use Rattle.refusals.specs.declared.Verdict.{Verdict}
 use Rattle.refusals.specs.declared.Verdict.TheVariants as verdict
-use Rattle.refusals.proofs.Verdicts.{passed_none}
 use Rattle.match_label_decoding.specs.Streams.{Along, words_at, label_at, previous_at, label_before, label_stands, Stood}
 use Rattle.match_label_decoding.specs.Answers.{link_of}
-use Rattle.match_label_decoding.specs.declared.Link.{Link}
-use Rattle.match_label_decoding.specs.declared.Link.TheVariants as link
 use Rattle.match_label_decoding.proofs.Along.{along_root}
 use Rattle.match_label_decoding.proofs.Links.{share_in}
 use Rattle.match_calls.proofs.Buffers.{length-labels_in}
@@ -38,18 +37,14 @@ use Rattle.match_stream_checks.proofs.Labels.{labels_at, labels_before}
 use Rattle.match_stream_checks.proofs.Rows.{pasted_here, pasted_before}
 
 -- an answer that tells a share says that the label stands, and what it shares
-said_shares : (b : Bool) (t : ℕ) {s : ℕ} {k : Link} → k ≡ link_of b t → k ≡ link.Shares s → (b ≡ true) × (s ≡ t)
+said_shares : (b : Bool) (t : ℕ) {s : ℕ} {k : std.Option ℕ} → k ≡ link_of b t → k ≡ Some s → (b ≡ true) × (s ≡ t)
 said_shares true t e f = (refl, cc)
 said_shares false t e f = absurd (let z : ◌≡◌ {A = ℕ} 0 1 = cc in omega arith)
 
 -- an answer that rules a label out says that the label does not stand
-said_out : (b : Bool) (t : ℕ) {k : Link} → k ≡ link_of b t → k ≡ link.RuledOut → b ≡ false
+said_out : (b : Bool) (t : ℕ) {k : std.Option ℕ} → k ≡ link_of b t → k ≡ None → b ≡ false
 said_out true t e f = absurd (let z : ◌≡◌ {A = ℕ} 0 1 = cc in omega arith)
 said_out false t e f = refl
-
--- a refusal is not a pass
-pub refused_not : (number place : ℕ) {v : Verdict} → v ≡ verdict_of (refuse number place) → v ≡ verdict.Passed → ⊥
-refused_not number place e f = none-ne-some _ (sym (passed_none (refuse number place) e f))
 
 -- Before label i: the labels before it stand, their shares are counted, and the names along them are written.
 pub record Reading (cl : Clues) (root want base n : ℕ) (ws : List ℕ) (i : ℕ) (names shares paths : List ℕ) : Type 0 where
@@ -100,7 +95,7 @@ module _ {cl : Clues} {root want base n : ℕ} {ws : List ℕ} {i : ℕ} {names 
         subst (λ l. Along cl root l (take label_size (drop (j * label_size) paths))) (sym (labels_at n ws j inside)) (reading.laid j (omega arith))
 
   -- an answer for label i
-  module _ (h : i < n) {k : Link} (is : k ≡ link_of (label_stands cl (get_or names 0 0) want i ws) (shared (label_before i ws) (label_at i ws))) where
+  module _ (h : i < n) {k : std.Option ℕ} (is : k ≡ link_of (label_stands cl (get_or names 0 0) want i ws) (shared (label_before i ws) (label_at i ws))) where
     -- how many labels are left
     left : n - i ≡ suc (n - (i + 1))
     left = omega arith
@@ -110,7 +105,7 @@ module _ {cl : Clues} {root want base n : ℕ} {ws : List ℕ} {i : ℕ} {names 
     link_is = is ∙ ap (λ r. link_of (label_stands cl r want i ws) (shared (label_before i ws) (label_at i ws))) starts_root
 
     -- a label that is ruled out is refused at its place
-    pub read_out : k ≡ link.RuledOut → {v : Verdict} → v ≡ verdict_of (refuse bad_stream (base + i)) → v ≡ verdict_of (stream_check cl root want base none n ws)
+    pub read_out : k ≡ None → {v : Verdict} → v ≡ verdict_of (refuse bad_stream (base + i)) → v ≡ verdict_of (stream_check cl root want base none n ws)
     unfolding words_at
     read_out e f =
         let ruled : label_stands cl root want i ws ≡ false = said_out (label_stands cl root want i ws) _ link_is e in
@@ -118,7 +113,7 @@ module _ {cl : Clues} {root want base n : ℕ} {ws : List ℕ} {i : ℕ} {names 
         stream_check_now cl root want (base + i) (previous_at i ws) (drop (i * label_size) ws) (λ t. subst T ruled t) (n - (i + 1))))
 
     -- the answer tells a share
-    module _ {s : ℕ} (shown : k ≡ link.Shares s) where
+    module _ {s : ℕ} (shown : k ≡ Some s) where
       -- label i stands
       stands : label_stands cl root want i ws ≡ true
       stands = (said_shares (label_stands cl root want i ws) _ link_is shown).0

@@ -1,23 +1,10 @@
--- Names written to the places of a label, one by one: where they stand, and what stays before them.
+-- Names written to the places of a label: where they stand, and what stays before them.
 use Prim.Native.Nat.{ℕ, ◌+◌, ◌*◌, ◌<◌, ◌≤◌}
 use mathlib.Core.Path.{◌≡◌, sym, ap, ◌∙◌}
 use mathlib.Core.List.{List, ◌++◌, append_assoc}
 use native.Mathlib.Omega.{arith}
-use native.Mathlib.Numerals.{add-one}
-use lib.ListN.{length, get_or, take, drop, set, length-drop, take-append-drop}
-use lib.Seq.{paste, paste-suc, take_all, take_at, drop_at, take-append-le, drop-append-le, length-take-le, length-paste}
-use Rattle.basics.specs.Limits.{label_size}
-
--- the first j names are written
-module _ (names paths₀ : List ℕ) (i j : ℕ) {paths : List ℕ} (inv : paths ≡ paste paths₀ (i * label_size) names j) where
-  -- one name more is written
-  pub name_more : length names ≡ label_size → i * label_size + label_size ≤ length paths₀ → j < label_size →
-      set paths (i * label_size + j) (get_or names j 0) ≡ paste paths₀ (i * label_size) names (j + 1)
-  name_more size room h = rw (inv, add-one) (paste-suc paths₀ (i * label_size) names j 0 (omega arith) (omega arith))
-
-  -- behind the last place all sixteen names are written
-  pub names_all : j ≤ label_size → label_size ≤ j → paths ≡ paste paths₀ (i * label_size) names label_size
-  names_all h k = let e : j ≡ label_size = omega arith in inv ∙ ap (λ n. paste paths₀ (i * label_size) names n) e
+use lib.ListN.{length, take, drop, length-drop, take-append-drop}
+use lib.Seq.{paste, take_all, take_at, drop_at, take-append-le, drop-append-le, length-take-le, length-paste}
 
 -- a part that lies in the front of a list does not depend on how the list goes on
 part_front : (l rest : List ℕ) (k m : ℕ) → k + m ≤ length l → take m (drop k (l ++ rest)) ≡ take m (drop k l)

@@ -14,7 +14,7 @@ ghost use Rattle.match_stream_checks.specs.Streams.{max_labels, stream_shares, P
 
 use label_words::LARGEST;
 use labels::Label;
-use match_label_decoding::{Link, read_label};
+use match_label_decoding::read_label;
 use names::Table;
 use refusals::{Refusal, Verdict, refuse};
 
@@ -23,16 +23,14 @@ fn write_names(names: &[u8], paths: &mut [u8], i: usize)
     requires { (length names.now ≡ label_size) × (i * label_size + label_size ≤ length paths.old) }
     ensures { paths.new ≡ paste paths.old (i * label_size) names.now label_size }
 {
-    let mut j: usize = 0;
-    while j < Label::WORDS {
-        paths[i * Label::WORDS + j] = names[j];
-        j += 1;
-    }
+    let at = i * Label::WORDS;
+    paths[at..at + Label::WORDS].copy_from_slice(names);
 }
 
 // The check of a stream whose first label is label `base` of its buffer: 20 at the first label that is ruled out. A
 // stream that passes leaves in `shares` how many components each label shares with the one before it, and in `paths`,
 // sixteen places for each label, the names along it.
+#[tactic(auto, using(crate::proofs::Rows::pasted_long))]
 pub fn check_stream(
     table: &Table,
     lengths: &[usize],
@@ -52,15 +50,12 @@ pub fn check_stream(
     let largest = LARGEST;
     let mut names = [0u8; 16];
     names[0] = root;
-    let mut i: usize = 0;
-    while i < shares.len() {
-        let Link::Shares(s) = read_label(table, lengths, &largest, want, stream, i, &mut names)
-        else {
+    for i in 0..shares.len() {
+        let Some(s) = read_label(table, lengths, &largest, want, stream, i, &mut names) else {
             return refuse(Refusal::BAD_STREAM, base + i);
         };
         shares[i] = s as u8;
         write_names(&names, paths, i);
-        i += 1;
     }
     Verdict::Passed
 }

@@ -3,27 +3,6 @@ use std::io::{ErrorKind, Read};
 use std::rt::Files;
 use std::{fs, io};
 
-// What a file gave: how many bytes, or that it is there and cannot be read.
-#[derive(Drop)]
-pub enum Reading {
-    Bytes(usize),
-    Failed,
-}
-
-// Says on standard error why a file cannot be read.
-fn failed(rt: &impl Eprint, path: &str, error: io::Error) -> Reading {
-    let _ = eprintln!(rt; "{path}: {error}");
-    Reading::Failed
-}
-
-// A file that cannot be opened: a missing one counts as empty.
-fn unopened(rt: &impl Eprint, path: &str, error: io::Error) -> Reading {
-    if error.kind() == ErrorKind::NotFound {
-        return Reading::Bytes(0);
-    }
-    failed(rt, path, error)
-}
-
 // The bytes of an open file: all of them, or as many as there is room for. A read of none finds the end of the file.
 fn read_open(file: &mut impl Read, bytes: &mut [u8]) -> io::Result<usize> {
     let mut n: usize = 0;
@@ -37,13 +16,27 @@ fn read_open(file: &mut impl Read, bytes: &mut [u8]) -> io::Result<usize> {
     Ok(n)
 }
 
-// The bytes of a file, put at the front of a buffer.
-pub fn read_file(rt: &(impl Files + Eprint), path: &str, bytes: &mut [u8]) -> Reading {
+// The bytes of a file, put at the front of a buffer; a missing file counts as empty.
+fn read_bytes(rt: &impl Files, path: &str, bytes: &mut [u8]) -> io::Result<usize> {
     match fs::open(rt, path) {
-        Ok(mut file) => match read_open(&mut file, bytes) {
-            Ok(n) => Reading::Bytes(n),
-            Err(error) => failed(rt, path, error),
-        },
-        Err(error) => unopened(rt, path, error),
+        Ok(mut file) => read_open(&mut file, bytes),
+        Err(error) => {
+            if error.kind() == ErrorKind::NotFound {
+                return Ok(0);
+            }
+            Err(error)
+        }
+    }
+}
+
+// How many bytes of a file were put at the front of a buffer. Where it cannot be read, that is said on standard error,
+// and none is answered.
+pub fn read_file(rt: &(impl Files + Eprint), path: &str, bytes: &mut [u8]) -> Option<usize> {
+    match read_bytes(rt, path, bytes) {
+        Ok(n) => Some(n),
+        Err(error) => {
+            let _ = eprintln!(rt; "{path}: {error}");
+            None
+        }
     }
 }

@@ -3,7 +3,7 @@
 
 mod files;
 
-use files::{Reading, read_file};
+use files::read_file;
 use name_files::MAX_FILE;
 use printing::{MAX_BYTES, TEXT_BYTES, print_matches};
 use std::process::ExitCode;
@@ -39,15 +39,15 @@ fn print(rt: &(impl Print + Eprint), names: &[u8], store: &[u8], twig: &[u8]) ->
 
 fn main(rt: HostRuntime) -> ExitCode {
     let mut names = [0u8; NAMES_ROOM];
-    let Reading::Bytes(names_len) = read_file(&rt, "names.tab", &mut names) else {
+    let Some(names_len) = read_file(&rt, "names.tab", &mut names) else {
         return ExitCode::FAILURE;
     };
     let mut store = [0u8; STORE_ROOM];
-    let Reading::Bytes(store_len) = read_file(&rt, "store.rec", &mut store) else {
+    let Some(store_len) = read_file(&rt, "store.rec", &mut store) else {
         return ExitCode::FAILURE;
     };
     let mut twig = [0u8; TWIG_ROOM];
-    let Reading::Bytes(twig_len) = read_file(&rt, "twig.rec", &mut twig) else {
+    let Some(twig_len) = read_file(&rt, "twig.rec", &mut twig) else {
         return ExitCode::FAILURE;
     };
     print(

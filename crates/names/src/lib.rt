@@ -31,15 +31,14 @@ pub fn rows_of(table: &Table) -> &[[u8; 64]]
 }
 
 // How many names a row has before its filler.
+#[tactic(auto, using(crate::proofs::Rows::count_stop, crate::proofs::Rows::count_on, crate::proofs::Rows::count_end))]
 pub fn row_len(row: &[u8]) -> usize
     ensures { result ≡ length (spec.names_of row.now) }
 {
-    let mut i: usize = 0;
-    while i < row.len() {
-        if row[i] == FILLER {
+    for (i, name) in row.iter().enumerate() {
+        if *name == FILLER {
             return i;
         }
-        i += 1;
     }
-    i
+    row.len()
 }

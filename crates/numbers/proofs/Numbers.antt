@@ -5,19 +5,18 @@ use mathlib.Core.Bool.{Bool, true, false, cond}
 use native.Mathlib.Omega.{arith}
 use lib.Dec.{leb}
 use borrow.Author.Tests.{le-ltb, lt-ltb, le-leb, lt-leb}
+use Rattle.std.specs.Prelude.{Option, Some, None}
 use Rattle.basics.specs.Limits.{max_component}
 use Rattle.labelling.specs.Numbers.{number}
 use Rattle.numbers.specs.Answers.{number_answer, number_for}
-use Rattle.numbers.specs.declared.Number.{Number}
-use Rattle.numbers.specs.declared.Number.TheVariants as given
 
 -- a number up to 65,534 is given
-pub number_fits : (x : ℕ) → x ≤ max_component → given.Given x ≡ number_answer x
+pub number_fits : (x : ℕ) → x ≤ max_component → Some x ≡ number_answer x
 unfolding number_answer
 number_fits x h = rw (le-leb _ _ h)
 
 -- no number over 65,534 is given
-pub number_large : (x : ℕ) → max_component < x → given.NoneLeft ≡ number_answer x
+pub number_large : (x : ℕ) → max_component < x → None ≡ number_answer x
 unfolding number_answer
 number_large x h = rw (lt-leb _ _ h)
 
@@ -33,18 +32,18 @@ module _ (n k f : ℕ) where
       go false = omega arith
 
   -- no number is given for a place that the clue does not have
-  pub number_none : n ≤ k → given.NoneLeft ≡ number_for n k f
+  pub number_none : n ≤ k → None ≡ number_for n k f
   unfolding number_for
   number_none h = rw (le-ltb k n h)
 
   module _ (h : k < n) where
     -- the least number for the place is what is given, unless it is over 65,534
-    pub number_is : {x : ℕ} {r : Number} → r ≡ number_answer x → x ≡ number n k f → r ≡ number_for n k f
+    pub number_is : {x : ℕ} {r : Option ℕ} → r ≡ number_answer x → x ≡ number n k f → r ≡ number_for n k f
     unfolding number_for
     number_is e d = rw (lt-ltb k n h) (e ∙ ap number_answer d)
 
     -- for a place over 65,534 no number is left
-    pub number_far : max_component < k → given.NoneLeft ≡ number_for n k f
+    pub number_far : max_component < k → None ≡ number_for n k f
     number_far e = number_is (number_large (number n k f) (omega (arith, number_ge))) refl
 
     -- where the place is not before f in the round of f, the number stands in that round
@@ -59,5 +58,5 @@ module _ (n k f : ℕ) where
       number_high = rw (lt-leb _ _ e)
 
       -- where a round is over 65,534, no number is left
-      pub number_over : max_component < n → given.NoneLeft ≡ number_for n k f
+      pub number_over : max_component < n → None ≡ number_for n k f
       number_over d = number_is (number_large (number n k f) (omega (arith, number_high))) refl

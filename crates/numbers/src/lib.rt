@@ -6,33 +6,29 @@ ghost use Rattle.numbers.specs.Answers.{number_answer, number_for};
 
 use labels::Label;
 
-// The number given to a child, or that none is left.
-#[derive(Drop)]
-pub enum Number {
-    Given(u16),
-    NoneLeft,
-}
-
 // A number, unless it is over the largest component.
-fn fit(x: usize) -> Number
+#[tactic(auto, using(crate::proofs::Numbers::number_fits, crate::proofs::Numbers::number_large))]
+fn fit(x: usize) -> Option<u16>
     ensures { result ≡ number_answer x }
 {
     if x <= Label::MAX_COMPONENT as usize {
-        Number::Given(x as u16)
+        Some(x as u16)
     } else {
-        Number::NoneLeft
+        None
     }
 }
 
-// The number for a child of place k: the least that is at least next and leaves k when divided by n.
-pub fn next_number(n: usize, k: usize, next: u16) -> Number
+// The number for a child of place k: the least that is at least next and leaves k when divided by n;
+// none where it is over the largest component.
+#[tactic(auto, using(crate::proofs::Numbers::number_none, crate::proofs::Numbers::number_far, crate::proofs::Numbers::number_is, crate::proofs::Numbers::number_over, crate::proofs::Numbers::number_low, crate::proofs::Numbers::number_high))]
+pub fn next_number(n: usize, k: usize, next: u16) -> Option<u16>
     ensures { result ≡ number_for n k next }
 {
     if n <= k {
-        return Number::NoneLeft;
+        return None;
     }
     if (Label::MAX_COMPONENT as usize) < k {
-        return Number::NoneLeft;
+        return None;
     }
     let f = next as usize;
     let r = f % n;
@@ -41,7 +37,7 @@ pub fn next_number(n: usize, k: usize, next: u16) -> Number
         return fit(base + k);
     }
     if (Label::MAX_COMPONENT as usize) < n {
-        return Number::NoneLeft;
+        return None;
     }
     fit(base + n + k)
 }

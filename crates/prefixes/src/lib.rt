@@ -1,4 +1,4 @@
-// Prefixes of slices, for the programs that test: the first elements, all where there are fewer.
+// Prefixes of slices, for the programs that test: the first items, all where there are fewer.
 #![tactic(auto)]
 
 ghost use Rattle.std.specs.Prelude.{◌≡◌, length, take};
@@ -6,44 +6,19 @@ ghost use Rattle.basics.specs.Basics.{over};
 
 use words::overwrite;
 
-// The first words of a slice; all where there are fewer.
-pub fn front(words: &[u16], len: usize) -> &[u16]
-    ensures { result.now ≡ take len words.now }
+// The first items of a slice; all where there are fewer.
+pub fn front<T>(items: &[T], len: usize) -> &[T]
+    ensures { result.now ≡ take len items.now }
 {
-    if words.len() < len {
-        return words;
-    }
-    &words[0..len]
+    &items[..len.min(items.len())]
 }
 
-// The first words of a slice, to be changed.
+// The first words of a slice, to be changed; all where there are fewer.
 pub fn front_mut(words: &mut [u16], len: usize) -> &mut [u16]
     ensures { result.now ≡ take len words.old }
 {
-    if words.len() < len {
-        return words;
-    }
-    &mut words[0..len]
-}
-
-// The first bytes of a slice; all where there are fewer.
-pub fn front_bytes(bytes: &[u8], len: usize) -> &[u8]
-    ensures { result.now ≡ take len bytes.now }
-{
-    if bytes.len() < len {
-        return bytes;
-    }
-    &bytes[0..len]
-}
-
-// The first numbers of a slice; all where there are fewer.
-pub fn front_numbers(numbers: &[usize], len: usize) -> &[usize]
-    ensures { result.now ≡ take len numbers.now }
-{
-    if numbers.len() < len {
-        return numbers;
-    }
-    &numbers[0..len]
+    let end = len.min(words.len());
+    &mut words[..end]
 }
 
 // Words copied over the front of others, as many as there is room for.

@@ -3,10 +3,9 @@
 use crate::files::{AREAS, NAMES, TWIG, begin, bytes, every, fill, many, words};
 use crate::show::{NEWLINE, answer, title};
 use case_lines::{ROW, bar_of, read_row};
-use guards::{byte, number};
-use prefixes::front_bytes;
+use guards::item_at;
+use prefixes::front;
 use std::io;
-use suffixes::behind_bytes;
 use wrapping::sum;
 
 // The files changed as a letter says.
@@ -27,7 +26,7 @@ fn case(rt: &impl Print, letter: u8, row: &[usize], files: &[u8]) -> io::Result<
     let mut changed = [0u8; AREAS];
     fill(&mut changed, 0, files);
     change(letter, row, &mut changed);
-    let first = if letter == b'o' { number(row, 1) } else { 0 };
+    let first = if letter == b'o' { item_at(row, 1) } else { 0 };
     answer(rt, &changed, first)
 }
 
@@ -39,41 +38,24 @@ fn line(rt: &impl Print, line: &[u8], files: &mut [u8]) -> io::Result<()> {
     }
     let mut row = [0usize; ROW];
     read_row(line, bar, &mut row);
-    let letter = byte(line, sum(bar, 1));
+    let letter = item_at(line, sum(bar, 1));
     if bar == 0 {
         change(letter, &row, files);
         return Ok(());
     }
-    title(rt, front_bytes(line, bar))?;
+    title(rt, front(line, bar))?;
     if letter != 0 {
         case(rt, letter, &row, files)?;
     }
     Ok(())
 }
 
-// The line that ends at a place, if one does; where the next one begins.
-fn run(
-    rt: &impl Print,
-    text: &[u8],
-    start: usize,
-    end: usize,
-    files: &mut [u8],
-) -> io::Result<usize> {
-    if byte(text, end) != NEWLINE {
-        return Ok(start);
-    }
-    let len = std::num::wrapping_sub_usize(end, start);
-    line(rt, front_bytes(behind_bytes(text, start), len), files)?;
-    Ok(sum(end, 1))
-}
-
-// Every line of a text, in turn.
+// Every line of a text that ends, in turn.
 pub fn lines(rt: &impl Print, text: &[u8], files: &mut [u8]) -> io::Result<()> {
-    let mut start: usize = 0;
-    let mut i: usize = 0;
-    while i < text.len() {
-        start = run(rt, text, start, i, files)?;
-        i += 1;
+    for part in text.split_inclusive(|b| *b == NEWLINE) {
+        if let Some(ended) = part.strip_suffix(&[NEWLINE]) {
+            line(rt, ended, files)?;
+        }
     }
     Ok(())
 }

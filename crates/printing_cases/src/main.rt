@@ -7,7 +7,7 @@ mod show;
 
 use files::AREAS;
 use lines::lines;
-use prefixes::front_bytes;
+use prefixes::front;
 use std::io;
 use std::io::Read;
 
@@ -31,5 +31,5 @@ fn main(rt: HostRuntime) -> io::Result<()> {
     let mut text = [0u8; CASES];
     let n = read_full(&mut rt.reader(), &mut text)?;
     let mut files = [0u8; AREAS];
-    lines(&rt, front_bytes(&text, n), &mut files)
+    lines(&rt, front(&text, n), &mut files)
 }

@@ -1,16 +1,13 @@
 // What the cases print.
 use crate::files::{NAMES, STORE, TWIG, file};
-use guards::byte;
-use prefixes::front_bytes;
+use prefixes::front;
 use printing::{TEXT_BYTES, print_matches};
 use std::io;
-use suffixes::behind_bytes;
-use wrapping::sum;
 
 // The byte that ends a line.
-pub const NEWLINE: u8 = 10;
+pub const NEWLINE: u8 = b'\n';
 
-const SPACE: u8 = 32;
+const SPACE: u8 = b' ';
 
 // Text as it is.
 fn say(rt: &impl Print, text: &[u8]) -> io::Result<()> {
@@ -25,7 +22,7 @@ fn number(rt: &impl Print, n: usize) -> io::Result<()> {
 // The text of a line; what follows stands behind a space at its end, and on a line of its own otherwise.
 pub fn title(rt: &impl Print, text: &[u8]) -> io::Result<()> {
     say(rt, text)?;
-    if byte(text, std::num::wrapping_sub_usize(text.len(), 1)) != SPACE {
+    if !text.ends_with(&[SPACE]) {
         say(rt, b"\n")?;
     }
     Ok(())
@@ -36,23 +33,15 @@ fn show(rt: &impl Print, text: &[u8], first: usize) -> io::Result<()> {
     if first == 0 {
         return say(rt, text);
     }
-    let mut lines: usize = 1;
-    let mut last: usize = 0;
-    let mut i: usize = 1;
-    while i < text.len() {
-        if text[i - 1] == NEWLINE {
-            lines = sum(lines, 1);
-            last = i;
-        }
-        i += 1;
-    }
+    let lines = text.split_inclusive(|b| *b == NEWLINE).count();
+    let last = text.split_inclusive(|b| *b == NEWLINE).last();
     number(rt, text.len())?;
     say(rt, b" bytes in ")?;
-    number(rt, lines)?;
+    number(rt, lines.max(1))?;
     say(rt, b" lines\n")?;
-    say(rt, front_bytes(text, first))?;
+    say(rt, front(text, first))?;
     say(rt, b"..\n")?;
-    say(rt, behind_bytes(text, last))
+    say(rt, last.unwrap_or(text))
 }
 
 // What is printed for the three files.
@@ -64,5 +53,5 @@ pub fn answer(rt: &impl Print, files: &[u8], first: usize) -> io::Result<()> {
         file(files, TWIG),
         &mut text,
     );
-    show(rt, front_bytes(&text, n), first)
+    show(rt, front(&text, n), first)
 }

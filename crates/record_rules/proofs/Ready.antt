@@ -5,13 +5,14 @@ use mathlib.Core.List.{List}
 use native.Mathlib.Omega.{arith}
 use lib.ListN.{length, get_or}
 use borrow.Author.Tests.{eqb-true}
+use Rattle.std.specs.Prelude.{Result, ⊤}
 use Rattle.basics.specs.Limits.{record_size, max_depth}
 use Rattle.naming.specs.Names.{Clues}
 use Rattle.storage.specs.Store.{read_element}
 use Rattle.records.specs.Records.{record_at}
 use Rattle.record_rules.specs.Rules.{Ready, broken_root, broken_below, broken_at}
 use Rattle.record_rules.specs.Answers.{check_of}
-use Rattle.record_rules.specs.declared.Check.{Check}
+use Rattle.record_rules.specs.declared.Rule.{Rule}
 use Rattle.record_rules.proofs.Depths.{fitting_depth, depth_root}
 
 module _ (ws : List ℕ) (r parent : ℕ) (ready : Ready ws r parent) where
@@ -44,7 +45,7 @@ module _ (ws : List ℕ) (r parent : ℕ) (ready : Ready ws r parent) where
     pub child_shallow : get_or ws ((r - 1 + 1) * record_size) 0 ≤ max_depth
     child_shallow = let at : r - 1 + 1 ≡ r = omega arith in rw at (fitting_depth r _ ready.laid.0)
 
-module _ (cl : Clues) (ws : List ℕ) (r parent : ℕ) {k : Check} where
+module _ (cl : Clues) (ws : List ℕ) (r parent : ℕ) {k : Result ⊤ Rule} where
   -- the rules of record 0 are those that the pass tests on it
   pub at_root : r ≡ 0 → k ≡ check_of (broken_root cl (read_element (record_at 0 ws))) → k ≡ check_of (broken_at cl ws r parent)
   unfolding broken_at

@@ -7,23 +7,21 @@ use native.Mathlib.Omega.{arith}
 use lib.ListN.{length, get_or}
 use lib.Dec.{eqb, ltb}
 use borrow.Author.Tests.{eq-eqb, ne_eqb, lt-ltb, le-ltb, le-leb, lt-leb, not-true, not-false}
+use Rattle.std.specs.Prelude.{Option, Some, None, Result, Ok, Err, ⊤}
 use Rattle.basics.specs.Basics.{elim?, last}
 use Rattle.basics.specs.Limits.{max_depth, max_name, record_size, name_word, next_word}
 use Rattle.naming.specs.Names.{Clues, led, is_name}
 use Rattle.labelling.specs.Labels.{Label, before, shared, label_of}
 use Rattle.storage.specs.Store as spec
 use Rattle.labelling.proofs.Kinship.{shared_low}
-use Rattle.clues.specs.Answers.{child_of}
-use Rattle.clues.specs.declared.Child.{Child}
-use Rattle.clues.specs.declared.Child.TheVariants as child
-use Rattle.clues.proofs.Children.{child_name, child_nowhere}
+use Rattle.bridges.specs.Options.{optional}
+use Rattle.bridges.proofs.Options.{given_some, given_none}
 use Rattle.records.specs.Records.{record_at}
 use Rattle.records.proofs.Parts.{record_word, record_label, record_long}
 use Rattle.record_rules.specs.Rules.{closed_by, broken_root, broken_below}
 use Rattle.record_rules.specs.Answers.{check_of}
+use Rattle.record_rules.specs.declared.Rule.{Rule}
 use Rattle.record_rules.specs.declared.Rule.TheVariants as rule
-use Rattle.record_rules.specs.declared.Check.{Check}
-use Rattle.record_rules.specs.declared.Check.TheVariants as check
 
 -- one of two tests passes where the second does
 or_true : (a : Bool) → (a || true) ≡ true
@@ -54,16 +52,16 @@ module _ (n depth next : ℕ) where
     closed_clue h = rw (ne_eqb next 0 more, ne_eqb depth max_depth h, or_false, or_false)
 
 -- a component below a clue, where the answer is c
-module _ (clue : List ℕ) (x name : ℕ) {c : Child} (is : c ≡ child_of (led clue x)) where
+module _ (clue : List ℕ) (x name : ℕ) {c : Option ℕ} (is : c ≡ optional (led clue x)) where
   -- a component that leads nowhere does not lead to the name
-  pub leads_nowhere : c ≡ child.Nowhere → false ≡ spec.leads clue x name
+  pub leads_nowhere : c ≡ None → false ≡ spec.leads clue x name
   unfolding spec.leads elim?
-  leads_nowhere e = rw (← child_nowhere (led clue x) is e)
+  leads_nowhere e = rw (given_none (led clue x) is e)
 
   -- a component that leads to a name leads to this name exactly if the two are equal
-  pub leads_name : {d : ℕ} → c ≡ child.Name d → eqb d name ≡ spec.leads clue x name
+  pub leads_name : {d : ℕ} → c ≡ Some d → eqb d name ≡ spec.leads clue x name
   unfolding spec.leads elim?
-  leads_name e = rw (← child_name (led clue x) is e)
+  leads_name e = rw (given_some (led clue x) is e)
 
 -- the rules of record 0 behind its layout
 module _ (cl : Clues) (ws : List ℕ) where
@@ -73,7 +71,7 @@ module _ (cl : Clues) (ws : List ℕ) where
   root_word = record_word ws 0 name_word (omega arith)
 
   -- a name above 63 breaks the rule of record 0's name
-  pub root_high : max_name < get_or ws name_word 0 → check.Broken rule.Name ≡ check_of (broken_root cl (spec.read_element (record_at 0 ws)))
+  pub root_high : max_name < get_or ws name_word 0 → Err rule.Name ≡ check_of (broken_root cl (spec.read_element (record_at 0 ws)))
   unfolding broken_root is_name spec.test
   root_high h = rw (root_word, lt-leb (get_or ws name_word 0) max_name h)
 
@@ -88,12 +86,12 @@ module _ (cl : Clues) (ws : List ℕ) where
         is ∙ rw (size, root_word, long, record_word ws 0 next_word (omega arith))
 
     -- where `closed` fails, the rule of its next number is the first that record 0 breaks
-    pub root_next : not b ≡ true → check.Broken rule.Next ≡ check_of (broken_root cl (spec.read_element (record_at 0 ws)))
+    pub root_next : not b ≡ true → Err rule.Next ≡ check_of (broken_root cl (spec.read_element (record_at 0 ws)))
     unfolding broken_root is_name spec.test
     root_next e = rw (← root_closed, not-true b e, root_word, le-leb (get_or ws name_word 0) max_name low)
 
     -- where `closed` passes, record 0 keeps all rules
-    pub root_kept : not b ≡ false → check.Kept ≡ check_of (broken_root cl (spec.read_element (record_at 0 ws)))
+    pub root_kept : not b ≡ false → Ok tt ≡ check_of (broken_root cl (spec.read_element (record_at 0 ws)))
     unfolding broken_root is_name spec.test
     root_kept e = rw (← root_closed, not-false b e, root_word, le-leb (get_or ws name_word 0) max_name low)
 
@@ -109,18 +107,18 @@ shared_few l p q is e long low = omega (arith, shared_low p q, ap length e)
 module _ (cl : Clues) (ws : List ℕ) (r parent : ℕ) {l m : Label} (p : l ≡ label_of (record_at r ws)) (q : m ≡ label_of (record_at (r + 1) ws)) {s : ℕ}
     (is : s ≡ shared (label_of (record_at r ws)) (label_of (record_at (r + 1) ws))) where
   -- what the rules say of the record
-  abbrev answer : Check
+  abbrev answer : Result ⊤ Rule
   answer = check_of (broken_below cl (spec.read_element (record_at r ws)) (spec.read_element (record_at parent ws)) (spec.read_element (record_at (r + 1) ws)))
 
   module _ {b : Bool} (order : b ≡ before l m) where
     -- a label that does not come after the previous one breaks the rule of order
-    pub below_order : not b ≡ true → check.Broken rule.Order ≡ answer
+    pub below_order : not b ≡ true → Err rule.Order ≡ answer
     unfolding broken_below spec.read_element spec.test
     below_order e = rw (← p, ← q, ← order, not-true b e)
 
     module _ (ascends : not b ≡ false) where
       -- a record whose parent does not stand earlier breaks the rule of the parent
-      pub below_parent : (s + 1 ≡ length m → ⊥) → check.Broken rule.Parent ≡ answer
+      pub below_parent : (s + 1 ≡ length m → ⊥) → Err rule.Parent ≡ answer
       unfolding broken_below spec.read_element spec.test
       below_parent e = rw (← p, ← q, ← order, not-false b ascends, ← shared_lent l m _ _ is p q, ne_eqb _ _ e)
 
@@ -136,13 +134,13 @@ module _ (cl : Clues) (ws : List ℕ) (r parent : ℕ) {l m : Label} (p : l ≡ 
         led_is = led ∙ rw (last_is, record_word ws parent name_word (omega arith), record_word ws (r + 1) name_word (omega arith))
 
         -- a name to which the parent's clue does not lead breaks the rule of the name
-        pub below_name : not k ≡ true → check.Broken rule.Name ≡ answer
+        pub below_name : not k ≡ true → Err rule.Name ≡ answer
         unfolding broken_below spec.read_element spec.test
         below_name e = rw (← p, ← q, ← order, not-false b ascends, ← shared_lent l m _ _ is p q, eq-eqb _ _ stands, ← led_is, not-true k e)
 
         module _ (named : not k ≡ false) where
           -- a last component that is not below the parent's next number breaks the rule of the last component
-          pub below_last : get_or ws (parent * record_size + next_word) 0 ≤ get_or m s 0 → check.Broken rule.Last ≡ answer
+          pub below_last : get_or ws (parent * record_size + next_word) 0 ≤ get_or m s 0 → Err rule.Last ≡ answer
           unfolding broken_below spec.read_element spec.test
           below_last h =
               let over : ltb (last m) (get_or (record_at parent ws) next_word 0) ≡ false =
@@ -161,11 +159,11 @@ module _ (cl : Clues) (ws : List ℕ) (r parent : ℕ) {l m : Label} (p : l ≡ 
             shut_is = shut ∙ rw (size, ← q, ← stands, record_word ws (r + 1) name_word (omega arith), record_word ws (r + 1) next_word (omega arith))
 
             -- where `closed` fails, the rule of its own next number is the first that the record breaks
-            pub below_next : not f ≡ true → check.Broken rule.Next ≡ answer
+            pub below_next : not f ≡ true → Err rule.Next ≡ answer
             unfolding broken_below spec.read_element spec.test
             below_next e = rw (← shut_is, ← p, ← q, ← order, not-false b ascends, ← shared_lent l m _ _ is p q, eq-eqb _ _ stands, ← led_is, not-false k named, under, not-true f e)
 
             -- where `closed` passes, the record keeps all rules
-            pub below_kept : not f ≡ false → check.Kept ≡ answer
+            pub below_kept : not f ≡ false → Ok tt ≡ answer
             unfolding broken_below spec.read_element spec.test
             below_kept e = rw (← shut_is, ← p, ← q, ← order, not-false b ascends, ← shared_lent l m _ _ is p q, eq-eqb _ _ stands, ← led_is, not-false k named, under, not-false f e)

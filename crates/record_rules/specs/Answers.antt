@@ -1,10 +1,9 @@
 -- What the rules say of a record, by the definitions of `storage`.
+use Rattle.std.specs.Prelude.{Result, Ok, Err, ⊤}
 use Rattle.std.proofs.Math.Option.{Option, none, some}
 use Rattle.storage.specs.Store as spec
 use Rattle.record_rules.specs.declared.Rule.{Rule}
 use Rattle.record_rules.specs.declared.Rule.TheVariants as rule
-use Rattle.record_rules.specs.declared.Check.{Check}
-use Rattle.record_rules.specs.declared.Check.TheVariants as check
 
 -- a rule of the paper, as the code names it
 abbrev pub rule_of : spec.Rule → Rule
@@ -16,6 +15,6 @@ rule_of spec.last_rule = rule.Last
 rule_of spec.next_rule = rule.Next
 
 -- what the rules say of a record: kept, or the first one broken
-abbrev pub check_of : Option spec.Rule → Check
-check_of none = check.Kept
-check_of (some r) = check.Broken (rule_of r)
+abbrev pub check_of : Option spec.Rule → Result ⊤ Rule
+check_of none = Ok tt
+check_of (some r) = Err (rule_of r)

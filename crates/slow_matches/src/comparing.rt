@@ -1,18 +1,20 @@
 // One twig over its streams, by the slow matcher and by the library's.
 use crate::label_lists::start;
-use crate::slices::{count_if, sum};
-use crate::slow::{OVER, slow_matches};
+use crate::slices::count_if;
+use crate::slow::slow_matches;
 use crate::tally::{
     AGREE, BRANCHING, EMPTY_STREAM, MANY_MATCHES, NO_MATCH, PAIRS, REFUSED, SIZE, UNFINISHED, say,
 };
 use crate::trees::ROOT;
 use crate::twig_parts::{NODE_BYTES, wildcard_branches};
-use guards::number;
+use guards::item_at;
 use matching::match_twig;
 use names::Table;
-use prefixes::{front_mut, front_numbers};
+use prefixes::{front, front_mut};
 use refusals::{Listing, Refusal, Verdict};
 use std::io;
+use suffixes::behind;
+use wrapping::sum;
 
 // The words of an output with room for 1,250 matches of eight nodes.
 const OUT_WORDS: usize = 160000;
@@ -29,19 +31,11 @@ const ROOMS: usize = 7;
 // The words of an ample room behind what is written.
 const MORE: usize = 40;
 
-// The difference of two numbers, 0 where the second is larger.
-fn less(a: usize, b: usize) -> usize {
-    if a < b {
-        return 0;
-    }
-    a - b
-}
-
 // The room for an answer of some words: one match too little, one word too little, exact, or ample.
 fn room_for(need: usize, twig: &[u8], pair: usize) -> usize {
     match pair % ROOMS {
-        0 => less(need, start(twig.len() / NODE_BYTES)),
-        1 => less(need, 1),
+        0 => need.saturating_sub(start(twig.len() / NODE_BYTES)),
+        1 => need.saturating_sub(1),
         2 => need,
         _ => sum(need, MORE),
     }
@@ -57,14 +51,7 @@ fn refusal(v: Verdict) -> u8 {
 
 // An output has the mark from a place on.
 fn is_marked(out: &[u16], from: usize) -> bool {
-    let mut i = from;
-    while i < out.len() {
-        if out[i] != MARK {
-            return false;
-        }
-        i += 1;
-    }
-    true
+    behind(out, from).iter().all(|word| *word == MARK)
 }
 
 // What an answer should be: a refusal's number or 0, so many matches, and the mark behind so many words.
@@ -139,13 +126,13 @@ pub fn compare(
 ) -> io::Result<bool> {
     let mut out = [MARK; OUT_WORDS];
     let walk = slow_matches(twig, store, streams, numbers, &out);
-    if walk.next != OVER {
+    if walk.next.is_some() {
         count_if(tally, UNFINISHED, true);
         return Ok(false);
     }
     let need = start(walk.labels);
-    let room = room_for(need, twig, number(tally, PAIRS));
-    let counts = front_numbers(numbers, leaves);
+    let room = room_for(need, twig, item_at(tally, PAIRS));
+    let counts = front(numbers, leaves);
     let listing = match_twig(
         *table,
         ROOT,

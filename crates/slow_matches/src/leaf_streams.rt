@@ -1,14 +1,14 @@
 // The streams of a twig, cut from a store one after the other; some emptied, some thinned.
 use crate::label_lists::start;
 use crate::random::roll;
-use crate::slices::sum;
 use crate::twig_parts::{MAX_NODES, NAME, NODE_BYTES, children, part};
 use cutting::cut;
-use guards::{put_number, put_word, word};
+use guards::{item_at, put};
 use labels::Label;
 use names::Table;
 use records::Store;
 use suffixes::behind_mut;
+use wrapping::sum;
 
 // The words of the streams of eight leaves, each of 240 labels.
 pub const BUFFER_WORDS: usize = 30720;
@@ -26,12 +26,9 @@ const THINNED: usize = 8;
 // Every other label of a list dropped, the second first; how many are left.
 fn thin(words: &mut [u16], count: usize) -> usize {
     let half = count / 2;
-    let end = start(half);
-    let mut w: usize = 0;
-    while w < end {
-        let x = word(words, sum(w, w / Label::WORDS * Label::WORDS));
-        put_word(words, w, x);
-        w += 1;
+    for w in 0..start(half) {
+        let x = item_at(words, sum(w, w / Label::WORDS * Label::WORDS));
+        put(words, w, x);
     }
     half
 }
@@ -89,17 +86,15 @@ pub fn cut_streams(
         empty: 0,
         labels: 0,
     };
-    let mut q: usize = 0;
-    while q < size {
-        put_number(numbers, BEFORE + q % MAX_NODES, s.labels);
+    for q in 0..size {
+        put(numbers, BEFORE + q % MAX_NODES, s.labels);
         if children(twig, q) == 0 {
             let want = part(twig, q, NAME);
             let n = stream(table, store, want, buffer, s.labels, state);
-            put_number(numbers, s.leaves, n);
+            put(numbers, s.leaves, n);
             s = with_stream(s, n);
         }
-        q += 1;
     }
-    put_number(numbers, sum(BEFORE, size), s.labels);
+    put(numbers, sum(BEFORE, size), s.labels);
     s
 }

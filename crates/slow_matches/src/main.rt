@@ -27,10 +27,8 @@ const STORES: usize = 120;
 fn main(rt: HostRuntime) -> io::Result<()> {
     let mut tally = [0usize; KINDS];
     let mut state = SEED;
-    let mut i: usize = 0;
-    while i < STORES {
+    for i in 0..STORES {
         ask_store(&rt, i, &mut state, &mut tally)?;
-        i += 1;
     }
     say(
         &rt,

@@ -3,15 +3,15 @@ use crate::comparing::{compare, count_twig};
 use crate::label_lists::start;
 use crate::leaf_streams::{BUFFER_WORDS, NUMBERS, cut_streams};
 use crate::random::roll;
-use crate::slices::sum;
 use crate::tables::{TABLES, table};
 use crate::trees::{STORE_WORDS, grow};
 use crate::twig_making::{MADE_BYTES, make_twig};
 use crate::twig_parts::{MAX_NODES, NODE_BYTES};
 use names::Table;
-use prefixes::{front, front_bytes};
+use prefixes::front;
 use records::Store;
 use std::io;
+use wrapping::sum;
 
 // How many twigs are asked of each store: as many of each size.
 const TWIGS: usize = 24;
@@ -39,7 +39,7 @@ fn ask(
     let mut buffer = [0u16; BUFFER_WORDS];
     let mut numbers = [0usize; NUMBERS];
     make_twig(store, &mut made, size, state);
-    let twig = front_bytes(&made, size % 9 * NODE_BYTES);
+    let twig = front(&made, size % 9 * NODE_BYTES);
     let s = cut_streams(table, store, twig, &mut buffer, &mut numbers, state);
     let streams = front(&buffer, start(s.labels));
     if compare(rt, table, twig, store, streams, &numbers, s.leaves, tally)? {
@@ -65,10 +65,8 @@ pub fn ask_store(
     let tries = sum(roll(state, DEEPEST), 1);
     let count = grow(&t, &mut words, changes, tries, state);
     let store = front(&words, count % STORE_WORDS * Store::RECORD_WORDS);
-    let mut k: usize = 0;
-    while k < TWIGS {
+    for k in 0..TWIGS {
         ask(rt, &t, store, k % MAX_NODES + 1, state, tally)?;
-        k += 1;
     }
     Ok(())
 }

@@ -1,13 +1,9 @@
-// Sums and counts of numbers.
-use guards::{number, put_number};
-
-// The sum of two numbers.
-pub fn sum(a: usize, b: usize) -> usize {
-    std::num::wrapping_add_usize(a, b)
-}
+// Counts of hits.
+use guards::{item_at, put};
+use wrapping::sum;
 
 // The number at a place, one more if there is a hit.
 pub fn count_if(numbers: &mut [usize], at: usize, hit: bool) {
-    let n = number(numbers, at);
-    put_number(numbers, at, sum(n, hit as usize));
+    let n = item_at(numbers, at);
+    put(numbers, at, sum(n, hit as usize));
 }

@@ -20,11 +20,9 @@ pub const TABLES: usize = 4;
 // A table of many names.
 fn many() -> Table {
     let mut file = [0u8; FILE_BYTES];
-    let mut i: usize = 0;
-    while i < PAIRS {
+    for i in 0..PAIRS {
         file[i * 2] = (i / 16) as u8;
         file[i * 2 + 1] = (i % 16) as u8;
-        i += 1;
     }
     read_names(&file)
 }

@@ -1,6 +1,5 @@
 // How many pairs there are of each kind, counted and printed.
-use crate::slices::sum;
-use guards::number;
+use guards::item_at;
 use std::io;
 
 // The kinds, and where each is counted. The twigs of a size are counted as many places behind one place.
@@ -26,20 +25,15 @@ pub const UNFINISHED: usize = 15;
 pub const KINDS: usize = 16;
 
 // What stands in a text for the next count.
-const COUNT: u8 = 35;
+const COUNT: u8 = b'#';
 
 // A text with the counts, from the first on.
 pub fn say(rt: &impl Print, text: &[u8], tally: &[usize]) -> io::Result<()> {
-    let mut kind: usize = 0;
-    let mut i: usize = 0;
-    while i < text.len() {
-        if text[i] == COUNT {
-            rt.print(number(tally, kind))?;
-            kind = sum(kind, 1);
-        } else {
-            rt.write_all(&text[i..i + 1])?;
+    for (i, part) in text.split(|b| *b == COUNT).enumerate() {
+        if 0 < i {
+            rt.print(item_at(tally, i - 1))?;
         }
-        i += 1;
+        rt.write_all(part)?;
     }
     Ok(())
 }

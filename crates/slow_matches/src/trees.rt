@@ -1,9 +1,9 @@
 // Stores made up by entries and deletions at random.
 use crate::random::roll;
-use clues::{Child, child_of};
+use clues::child_of;
 use deletions::delete;
 use entries::enter;
-use guards::word;
+use guards::item_at;
 use labels::Label;
 use names::{FILLER, TABLE_SIZE, Table};
 use new_stores::new_store;
@@ -36,29 +36,24 @@ pub fn record_label(words: &[u16], r: usize) -> &[u16] {
 
 // The name of record r.
 pub fn record_name(words: &[u16], r: usize) -> usize {
-    word(words, r % STORE_RECORDS * Store::RECORD_WORDS + Store::NAME) as usize
+    item_at(words, r % STORE_RECORDS * Store::RECORD_WORDS + Store::NAME) as usize
 }
 
 // The deepest of some records.
 fn deepest(words: &[u16], count: usize, tries: usize, state: &mut u64) -> usize {
     let mut r = roll(state, count);
-    let mut i: usize = 1;
-    while i < tries {
+    for _ in 1..tries {
         let s = roll(state, count);
-        if word(record_label(words, r), 0) < word(record_label(words, s), 0) {
+        if item_at(record_label(words, r), 0) < item_at(record_label(words, s), 0) {
             r = s;
         }
-        i += 1;
     }
     r
 }
 
 // A name below a name, picked by a number; the filler where there is none.
 fn name_below(table: &Table, name: usize, pick: usize) -> u8 {
-    match child_of(table, name, (pick % TABLE_SIZE) as u16) {
-        Child::Name(n) => n,
-        Child::Nowhere => FILLER,
-    }
+    child_of(table, name, (pick % TABLE_SIZE) as u16).unwrap_or(FILLER)
 }
 
 // An element deleted with all below it, or one entered below the deepest of some records; the count.
@@ -86,10 +81,8 @@ pub fn grow(
 ) -> usize {
     let g = new_store(words, ROOT, PAYLOAD);
     let mut count = g.count;
-    let mut i: usize = 0;
-    while i < changes {
+    for _ in 0..changes {
         count = change(table, words, count, tries, state);
-        i += 1;
     }
     count
 }

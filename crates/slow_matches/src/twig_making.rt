@@ -1,13 +1,13 @@
 // Twigs made up beside a store: each node has a host there, below its parent's where one is found.
 use crate::label_lists::way;
 use crate::random::roll;
-use crate::slices::sum;
 use crate::trees::{record_label, record_name};
 use crate::twig_parts::{
     ANY, CHILD, DESCENDANT, EDGE, MAX_NODES, NAME, NO_PARENT, NODE_BYTES, PARENT,
 };
-use guards::{byte, put_byte};
+use guards::{item_at, put};
 use records::Store;
+use wrapping::sum;
 
 // The bytes of the largest twig with the hosts of its nodes behind them, and where the hosts begin.
 pub const MADE_BYTES: usize = 40;
@@ -55,9 +55,9 @@ fn top(count: usize, state: &mut u64) -> Hook {
     }
 }
 
-// An edge for a way between two hosts. A child edge is not always true there.
-fn edge_for(labels: usize, state: &mut u64) -> u8 {
-    if (roll(state, 2) == 0) & (labels == 2) {
+// An edge for the way between two hosts, if there is one. A child edge is not always true there.
+fn edge_for(labels: Option<usize>, state: &mut u64) -> u8 {
+    if roll(state, 2) == 0 && labels == Some(2) {
         return CHILD;
     }
     if roll(state, MADE_UP) == 0 {
@@ -71,14 +71,15 @@ fn hung(store: &[u16], made: &[u8], q: usize, state: &mut u64) -> Hook {
     let count = store.len() / Store::RECORD_WORDS;
     let mut parent: usize = 0;
     let mut host: usize = 0;
-    let mut labels: usize = 0;
-    let mut i: usize = 0;
-    while i < TRIES && labels < 2 {
+    let mut labels = None;
+    for _ in 0..TRIES {
         parent = roll(state, q);
         host = roll(state, count);
-        let up = byte(made, sum(HOSTS, parent)) as usize;
+        let up = item_at(made, sum(HOSTS, parent)) as usize;
         labels = way(record_label(store, up), record_label(store, host));
-        i += 1;
+        if labels.is_some_and(|labels| 2 <= labels) {
+            break;
+        }
     }
     Hook {
         parent,
@@ -106,17 +107,15 @@ fn make_node(store: &[u16], made: &mut [u8], q: usize, state: &mut u64) {
         hung(store, made, q, state)
     };
     let at = q % MAX_NODES * NODE_BYTES;
-    put_byte(made, at + PARENT, (h.parent % 256) as u8);
-    put_byte(made, at + EDGE, h.edge);
-    put_byte(made, at + NAME, (asked(store, h.host, state) % 256) as u8);
-    put_byte(made, HOSTS + q % MAX_NODES, (h.host % 256) as u8);
+    put(made, at + PARENT, (h.parent % 256) as u8);
+    put(made, at + EDGE, h.edge);
+    put(made, at + NAME, (asked(store, h.host, state) % 256) as u8);
+    put(made, HOSTS + q % MAX_NODES, (h.host % 256) as u8);
 }
 
 // A twig made up beside a store.
 pub fn make_twig(store: &[u16], made: &mut [u8], size: usize, state: &mut u64) {
-    let mut q: usize = 0;
-    while q < size {
+    for q in 0..size {
         make_node(store, made, q, state);
-        q += 1;
     }
 }

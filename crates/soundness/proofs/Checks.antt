@@ -3,7 +3,7 @@ use Prim.Native.Nat.{ℕ}
 use mathlib.Core.Path.{◌≡◌, refl, sym, ap, ap₂, ◌∙◌}
 use mathlib.Core.List.{List, []}
 use mathlib.Core.Option.{Option, none, some}
-use native.Mathlib.Omega.{arith}
+use Rattle.std.specs.Prelude.{Result, Ok, Err, ⊤}
 use Rattle.basics.specs.Basics.{elim?}
 use Rattle.basics.specs.Refusals.{refuse, bad_layout, bad_order, bad_name, bad_next}
 use Rattle.naming.specs.Names.{Clues}
@@ -15,8 +15,7 @@ use Rattle.record_rules.specs.Answers.{rule_of}
 use Rattle.record_rules.specs.declared.Rule.{Rule}
 use Rattle.record_rules.specs.declared.Rule.TheVariants as rule
 use Rattle.soundness.specs.Answers.{paper_rule, soundness_of}
-use Rattle.soundness.specs.declared.Soundness.{Soundness}
-use Rattle.soundness.specs.declared.Soundness.TheVariants as soundness
+use Rattle.soundness.specs.declared.Fault.{Fault}
 
 -- the number of each rule
 module _ {r : Rule} where
@@ -60,28 +59,28 @@ paper_rule_lem spec.last_rule = refl
 paper_rule_lem spec.next_rule = refl
 
 -- where the code answers that a store is sound, the definition finds no fault
-said_sound : (o : Option spec.Fault) {k : Soundness} → k ≡ soundness_of o → k ≡ soundness.Sound → o ≡ none
+said_sound : (o : Option spec.Fault) {k : Result ⊤ Fault} → k ≡ soundness_of o → k ≡ Ok tt → o ≡ none
 said_sound none e f = refl
-said_sound (some x) e f = absurd (let z : ◌≡◌ {A = ℕ} 0 1 = cc in omega arith)
+said_sound (some x) e f = cc
 
 -- where the code names a fault, the definition finds it
-said_fault : (o : Option spec.Fault) {k : Soundness} {x : Rule} {place : ℕ} → k ≡ soundness_of o → k ≡ soundness.Broken x place →
-    (f : spec.Fault) × (o ≡ some f) × (x ≡ rule_of f.rule) × (place ≡ f.place)
-said_fault none e f = absurd (let z : ◌≡◌ {A = ℕ} 0 1 = cc in omega arith)
-said_fault (some x) e f = (x, refl, cc, cc)
+said_fault : (o : Option spec.Fault) {k : Result ⊤ Fault} {x : Fault} → k ≡ soundness_of o → k ≡ Err x →
+    (f : spec.Fault) × (o ≡ some f) × (x ≡ record { rule = rule_of f.rule; place = f.place })
+said_fault none e f = cc
+said_fault (some x) e f = (x, refl, cc)
 
-module _ (cl : Clues) (count : ℕ) (ws : List ℕ) {k : Soundness} (is : k ≡ soundness_of (spec.fault cl [] (spec.records count ws))) where
+module _ (cl : Clues) (count : ℕ) (ws : List ℕ) {k : Result ⊤ Fault} (is : k ≡ soundness_of (spec.fault cl [] (spec.records count ws))) where
   -- records without a fault pass
-  pub records_sound : k ≡ soundness.Sound → verdict.Passed ≡ verdict_of (spec.sound_check cl count ws)
+  pub records_sound : k ≡ Ok tt → verdict.Passed ≡ verdict_of (spec.sound_check cl count ws)
   unfolding spec.sound_check elim?
   records_sound e = rw (said_sound (spec.fault cl [] (spec.records count ws)) is e)
 
   -- a fault is refused by its rule's number at its place
-  pub records_fault : {x : Rule} {n place : ℕ} {v : Verdict} → k ≡ soundness.Broken x place → n ≡ spec.number_of (paper_rule x) → v ≡ verdict_of (refuse n place) →
+  pub records_fault : {x : Fault} {n : ℕ} {v : Verdict} → k ≡ Err x → n ≡ spec.number_of (paper_rule x.rule) → v ≡ verdict_of (refuse n x.place) →
       v ≡ verdict_of (spec.sound_check cl count ws)
   unfolding spec.sound_check elim?
   records_fault {n = n} e number f =
-      let (fault, at, rule, place) = said_fault (spec.fault cl [] (spec.records count ws)) is e in
-      let same : n ≡ spec.number_of fault.rule = number ∙ ap (λ x. spec.number_of (paper_rule x)) rule ∙ ap spec.number_of (paper_rule_lem fault.rule) in
-      f ∙ ap₂ (λ (n p : ℕ). verdict_of (refuse n p)) same place ∙
+      let (fault, at, named) = said_fault (spec.fault cl [] (spec.records count ws)) is e in
+      let same : n ≡ spec.number_of fault.rule = number ∙ ap (λ (x : Fault). spec.number_of (paper_rule x.rule)) named ∙ ap spec.number_of (paper_rule_lem fault.rule) in
+      f ∙ ap₂ (λ (n p : ℕ). verdict_of (refuse n p)) same (ap (λ (x : Fault). x.place) named) ∙
       sym (ap (λ o. verdict_of (elim? o none (λ f. refuse (spec.number_of f.rule) f.place))) at)

@@ -12,6 +12,7 @@ use lib.ListN.{length, get_or, drop, set, replicate, length-set}
 use lib.Seq.{drop-drop}
 use lib.Dec.{T, eqb, ltb}
 use borrow.Author.Tests.{not-true}
+use Rattle.std.specs.Prelude.{Result, Ok, Err, ⊤}
 use Rattle.basics.specs.Basics.{elim?}
 use Rattle.basics.specs.Limits.{max_depth, record_size}
 use Rattle.naming.specs.Names.{Clues}
@@ -25,12 +26,9 @@ use Rattle.record_rules.specs.Rules.{Laid, Ready, depth_fits, shared_before, bro
 use Rattle.record_rules.specs.Answers.{rule_of, check_of}
 use Rattle.record_rules.specs.declared.Rule.{Rule}
 use Rattle.record_rules.specs.declared.Rule.TheVariants as rule
-use Rattle.record_rules.specs.declared.Check.{Check}
-use Rattle.record_rules.specs.declared.Check.TheVariants as check
 use Rattle.record_rules.proofs.Depths.{fitting_depth, depth_root, depth_below}
-use Rattle.soundness.specs.Answers.{soundness_of}
-use Rattle.soundness.specs.declared.Soundness.{Soundness}
-use Rattle.soundness.specs.declared.Soundness.TheVariants as soundness
+use Rattle.soundness.specs.Answers.{broken, soundness_of}
+use Rattle.soundness.specs.declared.Fault.{Fault}
 use Rattle.soundness.proofs.Fits.{Fitting, found_depth}
 use Rattle.soundness.proofs.Shared.{shares_fit}
 use Rattle.soundness.proofs.Trail.{behind, Trail}
@@ -99,18 +97,18 @@ layout_broken cl ws (suc r) h = test_fails _ _ _ (λ t.
     shallow laid = subst (λ d. d ≤ max_depth) (record_depth ws (suc r)) (laid_depth (record_at (suc r) ws) laid)
 
 -- where the code answers a broken rule, the definition finds that rule broken
-said_broken : (o : Option spec.Rule) {k : Check} {x : Rule} → k ≡ check_of o → k ≡ check.Broken x → (y : spec.Rule) × (o ≡ some y) × (rule_of y ≡ x)
-said_broken none e f = absurd (let z : ◌≡◌ {A = ℕ} 0 1 = cc in omega arith)
+said_broken : (o : Option spec.Rule) {k : Result ⊤ Rule} {x : Rule} → k ≡ check_of o → k ≡ Err x → (y : spec.Rule) × (o ≡ some y) × (rule_of y ≡ x)
+said_broken none e f = cc
 said_broken (some y) e f = (y, refl, cc)
 
 -- where the code answers that all rules are kept, the definition finds none broken
-said_kept : (o : Option spec.Rule) {k : Check} → k ≡ check_of o → k ≡ check.Kept → o ≡ none
+said_kept : (o : Option spec.Rule) {k : Result ⊤ Rule} → k ≡ check_of o → k ≡ Ok tt → o ≡ none
 said_kept none e f = refl
-said_kept (some y) e f = absurd (let z : ◌≡◌ {A = ℕ} 0 1 = cc in omega arith)
+said_kept (some y) e f = cc
 
 module _ (cl : Clues) (count : ℕ) (ws parents : List ℕ) (r : ℕ) (scanned : Scanned cl count ws parents r) where
   -- where all records are scanned, the store is sound
-  pub scan_end : {k : Soundness} → k ≡ soundness.Sound → count ≤ r → k ≡ soundness_of (spec.fault cl [] (spec.records count ws))
+  pub scan_end : {k : Result ⊤ Fault} → k ≡ Ok tt → count ≤ r → k ≡ soundness_of (spec.fault cl [] (spec.records count ws))
   unfolding spec.fault spec.records
   scan_end e h = e ∙ (let none_left : count - r ≡ 0 = omega arith in rw (scanned.rest, none_left))
 
@@ -133,17 +131,17 @@ module _ (cl : Clues) (count : ℕ) (ws parents : List ℕ) (r : ℕ) (scanned :
 
     -- a rule that record r breaks is the store's fault
     breaks : (x : spec.Rule) → spec.broken cl (behind r ws) (record_at r ws) ≡ some x →
-        soundness.Broken (rule_of x) r ≡ soundness_of (spec.fault cl [] (spec.records count ws))
+        broken (rule_of x) r ≡ soundness_of (spec.fault cl [] (spec.records count ws))
     unfolding elim?
     breaks x e = rw (next, e)
 
     -- a record whose depth does not fit breaks the rule of the layout
     pub scan_depth : {b : Bool} → b ≡ depth_fits r (get_or ws (r * record_size) 0) → not b ≡ true →
-        soundness.Broken rule.Layout r ≡ soundness_of (spec.fault cl [] (spec.records count ws))
+        broken rule.Layout r ≡ soundness_of (spec.fault cl [] (spec.records count ws))
     scan_depth {b} is e = breaks spec.layout_rule (layout_broken cl ws r (λ l. subst T (sym is ∙ not-true b e) (passed l.0)))
 
     -- a record with a word that does not fit breaks the rule of the layout
-    pub scan_word : spec.laid_out (record_at r ws) ≡ false → soundness.Broken rule.Layout r ≡ soundness_of (spec.fault cl [] (spec.records count ws))
+    pub scan_word : spec.laid_out (record_at r ws) ≡ false → broken rule.Layout r ≡ soundness_of (spec.fault cl [] (spec.records count ws))
     scan_word e = breaks spec.layout_rule (layout_broken cl ws r (λ l. subst T e (passed l.1)))
 
     -- the components that record r shares with the previous one fit
@@ -154,20 +152,20 @@ module _ (cl : Clues) (count : ℕ) (ws parents : List ℕ) (r : ℕ) (scanned :
     pub scan_ready : count * record_size ≤ length ws → Laid ws r → Ready ws r (get_or parents (get_or ws (r * record_size) 0) 0)
     scan_ready room laid = record { room = omega arith; laid = laid; earlier = scanned.earlier _; shallow = λ q h. fitting_depth q _ (scanned.tidy q h).0 }
 
-    module _ (room : count * record_size ≤ length ws) (laid : Laid ws r) {k : Check}
+    module _ (room : count * record_size ≤ length ws) (laid : Laid ws r) {k : Result ⊤ Rule}
         (is : k ≡ check_of (broken_at cl ws r (get_or parents (get_or ws (r * record_size) 0) 0))) where
       -- record r stands in the slice
       inside : r * record_size + record_size ≤ length ws
       inside = omega arith
 
       -- a later rule that record r breaks is the store's fault
-      pub scan_rule : {x : Rule} → k ≡ check.Broken x → soundness.Broken x r ≡ soundness_of (spec.fault cl [] (spec.records count ws))
+      pub scan_rule : {x : Rule} → k ≡ Err x → broken x r ≡ soundness_of (spec.fault cl [] (spec.records count ws))
       scan_rule e =
           let (y, at, named) = said_broken _ is e in
-          ap (λ x. soundness.Broken x r) (sym named) ∙ breaks y (broken_is cl ws parents r scanned.trail inside laid ∙ at)
+          ap (λ x. broken x r) (sym named) ∙ breaks y (broken_is cl ws parents r scanned.trail inside laid ∙ at)
 
       -- where record r keeps all rules, what was known before it is known before the next record
-      pub scan_on : k ≡ check.Kept → Scanned cl count ws (set parents (get_or ws (r * record_size) 0 + 1) r) (r + 1)
+      pub scan_on : k ≡ Ok tt → Scanned cl count ws (set parents (get_or ws (r * record_size) 0 + 1) r) (r + 1)
       unfolding behind elim?
       scan_on e =
           let kept = said_kept _ is e in

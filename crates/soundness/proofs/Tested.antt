@@ -6,6 +6,7 @@ use mathlib.Core.Bool.{Bool, true, false, not}
 use mathlib.Core.List.{List, []}
 use native.Mathlib.Omega.{arith}
 use lib.ListN.{length, get_or, set}
+use Rattle.std.specs.Prelude.{Result, Ok, Err, ⊤}
 use Rattle.basics.specs.Limits.{max_component, max_depth, label_size, record_size}
 use Rattle.naming.specs.Names.{Clues}
 use Rattle.storage.specs.Store as spec
@@ -15,10 +16,7 @@ use Rattle.record_rules.specs.Rules.{Laid, Ready, depth_fits, shared_before, bro
 use Rattle.record_rules.specs.Answers.{check_of}
 use Rattle.record_rules.specs.declared.Rule.{Rule}
 use Rattle.record_rules.specs.declared.Rule.TheVariants as rule
-use Rattle.record_rules.specs.declared.Check.{Check}
-use Rattle.record_rules.specs.declared.Check.TheVariants as check
-use Rattle.soundness.specs.Answers.{soundness_of}
-use Rattle.soundness.specs.declared.Soundness.TheVariants as soundness
+use Rattle.soundness.specs.Answers.{broken, soundness_of}
 use Rattle.soundness.proofs.Fits.{Fitting, found_fits, found_depth, fit_on, fit_over, fit_rest, fit_laid}
 use Rattle.soundness.proofs.Scan.{Scanned, scan_word, scan_shared, scan_ready, scan_rule, scan_on}
 
@@ -60,12 +58,12 @@ module _ (cl : Clues) (count : ℕ) (ws parents : List ℕ) (r : ℕ) where
 
     -- a used component over 65,534 breaks the rule of the layout
     pub tested_over : w ≤ get_or ws (r * record_size) 0 → max_component < get_or ws (r * record_size + w) 0 →
-        soundness.Broken rule.Layout r ≡ soundness_of (spec.fault cl [] (spec.records count ws))
+        broken rule.Layout r ≡ soundness_of (spec.fault cl [] (spec.records count ws))
     tested_over used over = scan_word cl count ws parents r t.scanned t.inside (fit_over ws r count w t.inside t.room used t.deep over)
 
     module _ {b : Bool} (is : b ≡ words_fit (rest_fits (get_or ws (r * record_size) 0)) ws (r * record_size) label_size) where
       -- an unused component that is not 0 breaks the rule of the layout
-      pub tested_rest : not b ≡ true → soundness.Broken rule.Layout r ≡ soundness_of (spec.fault cl [] (spec.records count ws))
+      pub tested_rest : not b ≡ true → broken rule.Layout r ≡ soundness_of (spec.fault cl [] (spec.records count ws))
       tested_rest e = scan_word cl count ws parents r t.scanned t.inside (fit_rest ws r (omega (arith, t.inside, t.room)) is e)
 
       module _ (all_used : get_or ws (r * record_size) 0 < w) (unused : not b ≡ false) where
@@ -77,11 +75,11 @@ module _ (cl : Clues) (count : ℕ) (ws parents : List ℕ) (r : ℕ) where
         pub tested_ready : {p : ℕ} → p ≡ get_or parents (get_or ws (r * record_size) 0) 0 → Ready ws r p
         tested_ready at = rw at (scan_ready cl count ws parents r t.scanned t.inside t.room laid)
 
-        module _ {k : Check} (answer : k ≡ check_of (broken_at cl ws r (get_or parents (get_or ws (r * record_size) 0) 0))) where
+        module _ {k : Result ⊤ Rule} (answer : k ≡ check_of (broken_at cl ws r (get_or parents (get_or ws (r * record_size) 0) 0))) where
           -- a later rule that the record breaks is the store's fault
-          pub tested_rule : {x : Rule} → k ≡ check.Broken x → soundness.Broken x r ≡ soundness_of (spec.fault cl [] (spec.records count ws))
+          pub tested_rule : {x : Rule} → k ≡ Err x → broken x r ≡ soundness_of (spec.fault cl [] (spec.records count ws))
           tested_rule e = scan_rule cl count ws parents r t.scanned t.inside t.room laid answer e
 
           -- a record that keeps all rules is scanned
-          pub tested_kept : k ≡ check.Kept → Scanned cl count ws (set parents (get_or ws (r * record_size) 0 + 1) r) (r + 1)
+          pub tested_kept : k ≡ Ok tt → Scanned cl count ws (set parents (get_or ws (r * record_size) 0 + 1) r) (r + 1)
           tested_kept e = scan_on cl count ws parents r t.scanned t.inside t.room laid answer e

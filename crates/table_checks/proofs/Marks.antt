@@ -1,6 +1,6 @@
 -- The check of a table: a test of every row. In a row the names are names, each once, and the rest is filler.
 use Prim.Native.Nat.{ℕ, zero, suc, ◌+◌, ◌-◌, ◌<◌, ◌≤◌}
-use mathlib.Core.Path.{◌≡◌, refl, sym, ap, ◌∙◌}
+use mathlib.Core.Path.{◌≡◌, refl, sym, ◌∙◌}
 use mathlib.Core.List.{List, [], ◌∷◌}
 use mathlib.Core.Bool.{Bool, true, false, not, ◌&&◌, ◌||◌, and-true, and-false, and_comm}
 use native.Mathlib.Nat.{not-suc-le-zero, le_of_suc-le-suc}
@@ -9,13 +9,13 @@ use lib.ListN.{length, get_or, take, drop, set, replicate, length-take, drop_of_
 use lib.Dec.{eqb, eqb-zero-suc, eqb-suc-zero, eqb-suc-suc}
 use mir.Syntax.{w8}
 use mir.Val.{Fits}
-use borrow.Author.Tests.{le-leb, lt-leb, eq-eqb, ne_eqb, not-true, not-false}
+use borrow.Author.Tests.{le-leb, lt-leb, eq-eqb, ne_eqb}
 use Rattle.basics.specs.Basics.{all, stands}
 use Rattle.basics.specs.Limits.{max_name, table_size, filler}
 use Rattle.basics.specs.Refusals.{bad_table, refuse, check}
 use Rattle.naming.specs.Names.{Table, is_name, names_of, twice, good_row, table_check}
 use Rattle.basics.proofs.Tests.{Tells, passes, fails, eq?}
-use Rattle.basics.proofs.Scans.{from_cons, tail_is, all_end, all_stop, all_on}
+use Rattle.basics.proofs.Scans.{from_cons, tail_is}
 use Rattle.refusals.specs.Answers.{verdict_of}
 use Rattle.refusals.specs.declared.Verdict.{Verdict}
 use Rattle.refusals.specs.declared.Verdict.TheVariants as verdict
@@ -162,19 +162,14 @@ module _ (row : List ℕ) {n : ℕ} (is : n ≡ length (names_of row)) where
     pub cut_rest : x ≡ true → {y : Bool} → y ≡ all is_filler (take (length row - n) (drop n row)) → y ≡ good_row row
     cut_rest e f = rw (← cut_good, e, ← tail_is n row) f
 
--- a table of which the rows before p are good
-module _ (table : Table) {rows : Table} (same : rows ≡ table) (p : ℕ) (inv : all good_row rows ≡ all good_row (drop p rows)) where
-  -- where all rows are good, the table passes
-  pub table_end : length rows ≤ p → verdict.Passed ≡ verdict_of (table_check table)
+-- a table, where the test of its rows answered x
+module _ (table : Table) {x : Bool} (is : x ≡ all good_row table) where
+  -- a table of good rows passes
+  pub table_good : x ≡ true → verdict.Passed ≡ verdict_of (table_check table)
   unfolding table_check check
-  table_end h = rw (← same, ← all_end good_row rows p inv h)
+  table_good e = rw (← is, e)
 
-  module _ (h : p < length rows) {row : List ℕ} (at : row ≡ get_or rows p []) {x : Bool} (is : x ≡ good_row row) where
-    -- a row that is not good has the table refused
-    pub table_bad : not x ≡ true → {r : Verdict} → r ≡ verdict_of (refuse bad_table 0) → r ≡ verdict_of (table_check table)
-    unfolding table_check check
-    table_bad e f = rw (← same, ← all_stop good_row [] rows p inv h (ap good_row (sym at) ∙ sym is ∙ not-true x e)) f
-
-    -- after a good row the next is tested
-    pub table_on : not x ≡ false → all good_row rows ≡ all good_row (drop (p + 1) rows)
-    table_on e = all_on good_row [] rows p inv h (ap good_row (sym at) ∙ sym is ∙ not-false x e)
+  -- a table with a row that is not good is refused
+  pub table_bad : x ≡ false → {r : Verdict} → r ≡ verdict_of (refuse bad_table 0) → r ≡ verdict_of (table_check table)
+  unfolding table_check check
+  table_bad e f = f ∙ rw (← is, e)

@@ -19,13 +19,13 @@ use Rattle.labelling.proofs.LabelWords.{label_of-take}
 use Rattle.texts.specs.Texts.{number_line, matches_in, LabelDepths, label_room, count_room}
 use Rattle.match_calls.proofs.Buffers.{length-labels_in}
 use Rattle.texts.proofs.Words.{length-matches_in, depths_drop}
-use Rattle.texts.proofs.Digits.{decimal_short}
+use Rattle.texts.proofs.Digits.{decimal_short, length_few}
 use Rattle.texts.proofs.Joined.{tailed, joined_tailed}
 
 -- the line of a number of sixty-four bits has at most twenty-one bytes
-pub number_line_short : (n : ℕ) → n < 2 ^ 64 → length (number_line n) ≤ count_room
+number_line_short : (n : ℕ) → n < 2 ^ 64 → length (number_line n) ≤ count_room
 unfolding text
-number_line_short n h = omega (arith, length-append (decimal n) (10 ∷ []), decimal_short 19 n (omega arith))
+number_line_short n h = omega (arith, length-append (decimal n) (10 ∷ []), length_few n h)
 
 -- texts of fewer than n bytes each, with a byte before each, have at most n bytes for each
 tailed_short : (by : ℕ) (end : List ℕ) (n : ℕ) (ts : List (List ℕ)) → ((t : List ℕ) → t ∈ ts → length t < n) → length (tailed by end ts) ≤ n * length ts + length end

@@ -1,11 +1,13 @@
 -- Numbers written into a list: one list of them after another, from the start, and what stands where afterwards.
-use mathlib.Core.Path.{◌≡◌, sym, ap, ◌∙◌}
+use mathlib.Core.Path.{◌≡◌, refl, sym, ap, ◌∙◌}
 use mathlib.Core.List.{List, [], ◌∷◌, ◌++◌, append_assoc}
 use Prim.Native.Nat.{ℕ, ◌+◌, ◌≤◌, ◌<◌}
 use native.Mathlib.Omega.{arith}
 use native.Mathlib.Numerals.{add-one}
+use borrow.Rule.Slice.PartMut.{put_mid}
 use lib.ListN.{length, get_or, take, drop, set, length-append, length-drop, take-append-drop, get_or-append}
 use lib.Seq.{set_split, take_at, drop_at, drop-drop, take-take, take-append-le, take-length, length-take-le, get_or-take, get_or-drop, paste}
+use Rattle.std.proofs.lemmas.Slice.{put_mid-paste}
 use Rattle.basics.specs.Basics.{over}
 use Rattle.words.specs.Writing.{written}
 
@@ -72,6 +74,10 @@ module _ (at : ℕ) (a b text : List ℕ) (room : at + length a + length b ≤ l
 pub written_paste : (at : ℕ) (ws out : List ℕ) (n : ℕ) → n ≡ length ws → paste out at ws n ≡ written at ws out
 unfolding written
 written_paste at ws out n e = rw (e, take-length ws) (append_assoc (take at out) ws (drop (at + length ws) out))
+
+-- as many numbers as a part of a list has, written over that part, are written at its place
+pub written_part : (at k : ℕ) (ws out : List ℕ) {now : List ℕ} → now ≡ ws → k ≡ length ws → put_mid at k out now ≡ written at ws out
+written_part at k ws out {now} e f = put_mid-paste at k out now ws k e refl f ∙ written_paste at ws out k f
 
 module _ (at : ℕ) (ws out : List ℕ) (fits : at + length ws ≤ length out) where
   -- as many words stand before the place as its number says

@@ -6,14 +6,13 @@ ghost use Rattle.basics.specs.Basics.{all};
 ghost use Rattle.zeros.specs.Words.{is_zero};
 
 // Every word is 0. The words are gathered with no way out between them, so that the compiler takes several at once.
+#[tactic(auto, using(basics::proofs::Scans::zeros_on, basics::proofs::Scans::zeros_end))]
 pub fn all_zero(s: &[u16]) -> bool
     ensures { result ≡ all is_zero s.now }
 {
     let mut any: u16 = 0;
-    let mut i: usize = 0;
-    while i < s.len() {
-        any |= s[i];
-        i += 1;
+    for word in s {
+        any |= *word;
     }
     any == 0
 }

@@ -1,9 +1,0 @@
--- `bench_checks::outputs::items` ends: it counts up to the labels.
-use Rattle.std.proofs.Common.{◌-◌, ◌≤◌}
-use Rattle.bench_checks.proofs.outputs.items.Given as goal
-
-abbrev pub invariant-loop-i : goal.invariant-loop-i
-invariant-loop-i g l = l.i ≤ l.count
-
-abbrev pub decreases-loop-i : goal.decreases-loop-i
-decreases-loop-i g l = l.count - l.i
