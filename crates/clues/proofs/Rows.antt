@@ -5,10 +5,10 @@ use mathlib.Core.List.{List, [], ◌∷◌}
 use mathlib.Core.Option.{Option, none, some, map}
 use native.Mathlib.Omega.{arith}
 use native.Mathlib.Nat.{zero-add, mod-lt, pos_of_ne-zero}
-use lib.ListN.{length, get_or, drop, get_or-eq_default}
+use lib.ListN.{length, get_or, drop, replicate, get_or-eq_default}
 use lib.Seq.{get_or-take}
 use borrow.Author.Tests.{eq-eqb, ne_eqb}
-use Rattle.basics.specs.Limits.{filler}
+use Rattle.basics.specs.Limits.{filler, table_size}
 use Rattle.naming.specs.Names.{Table, names_of, clues_of, place_in, led}
 use Rattle.names.proofs.Rows.{names_end, names_stop, names_on, take_names, names_short}
 use Rattle.std.specs.Prelude.{Some, None}
@@ -58,8 +58,8 @@ module _ (c : ℕ) (row : List ℕ) (i : ℕ) where
         unfolding place_in
         search_on e = rw (inv, names_on row i h go, ne_eqb _ _ e) (shift_more i (place_in c (names_of (drop (i + 1) row))))
 
--- a number past the last row has no names
-pub clue_none : (table : Table) (p : ℕ) → length table ≤ p → names_of [] ≡ clues_of table p
+-- a number past the last row has the clue of a row of filler alone
+pub clue_none : (table : Table) (p : ℕ) → length table ≤ p → names_of (replicate table_size filler) ≡ clues_of table p
 unfolding clues_of names_of
 clue_none table p h = rw get_or-eq_default
 

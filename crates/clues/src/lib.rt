@@ -8,14 +8,14 @@ ghost use Rattle.bridges.specs.Options.{optional};
 
 use names::{FILLER, Table, row_len};
 
-// A name's row; no names for a number that is no name.
+// A name's row, copied; no names for a number that is no name.
 #[tactic(auto, using(crate::proofs::Rows::clue_none))]
-fn row_of(table: &Table, parent: usize) -> &[u8]
-    ensures { spec.names_of result.now ≡ spec.clues_of table.now parent }
+fn row_of(table: &Table, parent: usize) -> [u8; 64]
+    ensures { spec.names_of result ≡ spec.clues_of table.now parent }
 {
     match table.get(parent) {
-        Some(row) => row,
-        None => &[],
+        Some(row) => *row,
+        None => [FILLER; 64],
     }
 }
 
@@ -23,7 +23,8 @@ fn row_of(table: &Table, parent: usize) -> &[u8]
 pub fn clue_len(table: &Table, parent: usize) -> usize
     ensures { result ≡ length (spec.clues_of table.now parent) }
 {
-    row_len(row_of(table, parent))
+    let row = row_of(table, parent);
+    row_len(&row)
 }
 
 // The place of a name in a row.
@@ -46,7 +47,8 @@ fn row_place(row: &[u8], child: u8) -> Option<usize>
 pub fn place_of(table: &Table, parent: usize, child: u8) -> Option<usize>
     ensures { result ≡ optional (spec.place_in child (spec.clues_of table.now parent)) }
 {
-    row_place(row_of(table, parent), child)
+    let row = row_of(table, parent);
+    row_place(&row, child)
 }
 
 // The name that a component leads to in a row of n names.
@@ -74,5 +76,6 @@ pub fn child_among(table: &Table, parent: usize, n: usize, component: u16) -> Op
     requires { n ≡ length (spec.clues_of table.now parent) }
     ensures { result ≡ optional (spec.led (spec.clues_of table.now parent) component) }
 {
-    row_child(row_of(table, parent), n, component)
+    let row = row_of(table, parent);
+    row_child(&row, n, component)
 }

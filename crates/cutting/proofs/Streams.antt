@@ -1,11 +1,11 @@
--- The stream of a store from one record on, and how many records it has labels of.
-use Prim.Native.Nat.{ℕ, zero, suc, ◌+◌, ◌<◌, ◌≤◌}
-use mathlib.Core.Path.{◌≡◌, refl, ap, ◌∙◌}
+-- The stream of a store from one record on: what a turn of a loop over the records finds of it.
+use Prim.Native.Nat.{ℕ, ◌+◌, ◌<◌, ◌≤◌}
+use mathlib.Core.Path.{◌≡◌, refl, sym, ap, ◌∙◌}
 use mathlib.Core.Bool.{Bool, true, false, cond}
 use mathlib.Core.List.{List, [], ◌∷◌, map}
+use native.Mathlib.Numerals.{add-one}
 use native.Mathlib.Omega.{arith}
 use lib.ListN.{length, drop, drop_of_length-le}
-use Rattle.std.specs.List.{filter, range_with_len}
 use Rattle.basics.specs.Basics.{keep}
 use Rattle.labelling.specs.Labels.{Label}
 use Rattle.embeddings.specs.Matches.{asks}
@@ -61,20 +61,20 @@ module _ (want count : ℕ) (ws : List ℕ) (r : ℕ) (h : r < count) where
   pub stream_left : asked want ws r ≡ false → stream_from want count ws r ≡ stream_from want count ws (r + 1)
   stream_left e = stream_next ∙ rw e
 
--- the records that a name asks for, counted
-module _ (want count : ℕ) (ws : List ℕ) where
-  -- where one member more or none is in front of two lists of the same length, their lengths stay the same
-  alike : (b : Bool) (x : ℕ) (xs : List ℕ) (l : Label) (ls : List Label) → length xs ≡ length ls → length (cond b (x ∷ xs) xs) ≡ length (cond b (l ∷ ls) ls)
-  alike true x xs l ls e = ap suc e
-  alike false x xs l ls e = e
+-- n labels of the stream are counted before record r
+module _ (want count : ℕ) (ws : List ℕ) (r n : ℕ) (inv : n + length (stream_from want count ws r) ≡ length (stream want (elements count ws))) where
+  -- at the end all labels of the stream are counted
+  pub count_end : count ≤ r → n ≡ length (stream want (elements count ws))
+  count_end h = let none : length (stream_from want count ws r) ≡ 0 = ap (λ (ls : List Label). length ls) (stream_end want count ws r h) in omega arith
 
-  -- from record a on as many records are asked for as the stream has labels
-  asked_from : (n a : ℕ) → a + n ≡ count → length (filter (asked want ws) (range_with_len a n)) ≡ length (stream_from want count ws a)
-  asked_from zero a e = rw (stream_end want count ws a (omega arith)) refl
-  asked_from (suc n) a e =
-      rw (stream_next want count ws a (omega arith))
-      (alike (asked want ws a) a _ (read_element (record_at a ws)).label _ (asked_from n (a + 1) (omega arith)))
+  module _ (h : r < count) {b : Bool} (is : b ≡ asked want ws r) {m : ℕ} where
+    -- a label that is asked for is counted
+    pub count_taken : b ≡ true → m ≡ n + 1 → m + length (stream_from want count ws (r + 1)) ≡ length (stream want (elements count ws))
+    count_taken e f =
+        let one : length (stream_from want count ws r) ≡ length (stream_from want count ws (r + 1)) + 1 =
+        ap (λ (ls : List Label). length ls) (stream_taken want count ws r h (sym is ∙ e)) ∙ sym (add-one _) in
+        omega arith
 
-  -- of all records as many are asked for as the stream has labels
-  pub stream_counted : length (filter (asked want ws) (range_with_len 0 count)) ≡ length (stream want (elements count ws))
-  stream_counted = asked_from count 0 (omega arith)
+    -- a label that is not asked for is not counted
+    pub count_left : b ≡ false → m ≡ n → m + length (stream_from want count ws (r + 1)) ≡ length (stream want (elements count ws))
+    count_left e f = rw (f, ← stream_left want count ws r h (sym is ∙ e)) inv

@@ -29,12 +29,18 @@ fn is_taken(store: &[u16], r: usize, want: u8) -> bool
     asks(want, store[r * Store::RECORD_WORDS + Store::NAME])
 }
 
-// How many labels the stream of a name has.
+// How many labels the stream of a name has. A loop of its own: `filter` and `count` take a branch for each record.
 fn stream_len(store: &[u16], count: usize, want: u8) -> usize
     requires { record_size * count ≤ length store.now }
     ensures { result ≡ length (spec.stream want (elements count store.now)) }
 {
-    (0..count).filter(|r| is_taken(store, *r, want)).count()
+    let mut n: usize = 0;
+    for r in 0..count {
+        if is_taken(store, r, want) {
+            n += 1;
+        }
+    }
+    n
 }
 
 // Writes the stream of a name from the start of an output that holds it.

@@ -69,7 +69,7 @@ fn is_later(i: usize, previous: &[u16], label: &[u16], s: usize) -> bool
 
 // Label i of a stream, read behind the label before it: how many components the two share, none where it may not stand
 // there. `names` holds the names along the label before, and then those along label i.
-#[tactic(auto, using(crate::proofs::Links::link_label, crate::proofs::Links::link_later, crate::proofs::Links::share_in, crate::proofs::Links::share_along, crate::proofs::Links::link_stuck, crate::proofs::Links::link_read, crate::proofs::Links::link_along, labels::proofs::Steps::known_label))]
+#[tactic(auto, using(crate::proofs::Links::link_label, crate::proofs::Links::link_later, crate::proofs::Links::share_in, crate::proofs::Links::share_along, crate::proofs::Links::link_stuck, crate::proofs::Links::link_read, crate::proofs::Links::link_stands, crate::proofs::Links::link_along, labels::proofs::Steps::known_label))]
 pub fn read_label(
     table: &Table,
     lengths: &[usize],

@@ -55,10 +55,16 @@ fn row_good(row: &[u8]) -> bool
 }
 
 // Every row of a table is good.
+#[tactic(auto, using(basics::proofs::Scans::all_on, basics::proofs::Scans::all_stop, basics::proofs::Scans::all_end))]
 fn rows_good(table: &Table) -> bool
     ensures { result ≡ all spec.good_row table.now }
 {
-    table.iter().all(|row| row_good(row))
+    for p in 0..table.len() {
+        if !row_good(&table[p]) {
+            return false;
+        }
+    }
+    true
 }
 
 // The check of a lent table: 22.

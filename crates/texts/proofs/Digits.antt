@@ -12,7 +12,7 @@ use Rattle.words.specs.Writing.{written}
 use Rattle.words.proofs.Writing.{written_one, written_before}
 
 -- a number below ten is printed by its digit
-decimal_digit : (n : ℕ) → n < 10 → decimal n ≡ (zero_digit + n) ∷ []
+pub decimal_digit : (n : ℕ) → n < 10 → decimal n ≡ (zero_digit + n) ∷ []
 unfolding decimal digits
 decimal_digit n h = rw (lt-ltb n 10 h)
 
@@ -27,7 +27,7 @@ digits_fuel (suc f) (suc g) n h k =
     (λ p. let q : 10 ≤ n = omega arith in rw (le-ltb n 10 q, digits_fuel f g (n / 10) (omega arith) (omega arith)))
 
 -- a number from ten on has the digits of its tenth, and one more
-decimal_more : (n : ℕ) → 10 ≤ n → decimal n ≡ decimal (n / 10) ++ ((zero_digit + n % 10) ∷ [])
+pub decimal_more : (n : ℕ) → 10 ≤ n → decimal n ≡ decimal (n / 10) ++ ((zero_digit + n % 10) ∷ [])
 unfolding decimal digits
 decimal_more n h =
     rw (le-ltb n 10 h) (ap (λ s. s ++ ((zero_digit + n % 10) ∷ [])) (digits_fuel n (suc (n / 10)) (n / 10) (omega arith) (omega arith)))

@@ -23,7 +23,7 @@ use Rattle.texts.proofs.Digits.{decimal_short, length_few}
 use Rattle.texts.proofs.Joined.{tailed, joined_tailed}
 
 -- the line of a number of sixty-four bits has at most twenty-one bytes
-number_line_short : (n : ℕ) → n < 2 ^ 64 → length (number_line n) ≤ count_room
+pub number_line_short : (n : ℕ) → n < 2 ^ 64 → length (number_line n) ≤ count_room
 unfolding text
 number_line_short n h = omega (arith, length-append (decimal n) (10 ∷ []), length_few n h)
 

@@ -1,13 +1,11 @@
--- The records that are counted are those that the stream has labels of.
-use Rattle.std.proofs.Common.{rules, tests, arith, ◌∙◌}
-use Rattle.std.proofs.lemmas.Iterator.{YieldsList-from_range}
-use Rattle.std.proofs.lemmas.Iterator.Consumers.{YieldsList-from_filter, count_from_yields_List}
-use Rattle.cutting.proofs.Streams.{asked, stream_counted}
+-- One record more is counted, whether its label is asked for or not, and at the end all are.
+use Rattle.std.proofs.Common.{rules}
+use Rattle.cutting.proofs.Streams.{count_end, count_taken, count_left}
 use Rattle.cutting.proofs.stream_len.Goals as goal
+use Rattle.cutting.proofs.stream_len.Goals.{then-is_taken, else-is_taken}
+
+pub loop-r-preserved : goal.loop-r-preserved
+loop-r-preserved c = elim c.if-is_taken.branch [ then-is_taken w ↦ search (count_taken, rules) | else-is_taken w ↦ search (count_left, rules) ]
 
 pub returns : goal.returns
-returns c =
-    let ws = c.args.store.now in
-    count_from_yields_List c.filter.result c.count.result c.count.ensures.ran
-    (YieldsList-from_filter _ (asked c.args.want ws) (YieldsList-from_range 0 c.args.count c.args.count (cc) (omega arith)) c.filter.ensures.closure (λ x r q k. search (rules, tests))) ∙
-    stream_counted c.args.want c.args.count ws
+returns c = search (count_end, rules)
